@@ -1,5 +1,5 @@
 -- What the exit tells of the answer, and of what was written.
-use Rattle.std.proofs.Common.{◌≡◌, ◌≢◌, ◌∙◌, ℕ, List, [], false, nat_eq, Option, None, Some, inl, inr, refl, sym, ap, subst, codes, arith, ◌++◌, true, append-nil}
+use Rattle.std.proofs.Common.{◌≡◌, ◌≢◌, ◌∙◌, ℕ, List, [], false, nat_eq, Option, None, Some, inl, inr, refl, sym, ap, subst, codes, arith}
 use Rattle.std.specs.Prelude.{⊤, ◌⊎◌, Result, Ok, Err}
 use Rattle.std.specs.Io.KnownBytes.{Appends}
 use Rattle.std.proofs.lemmas.Bool.Decides.{nat_tests}
@@ -40,30 +40,23 @@ use Rattle.dimacs_front.specs.declared.error.DimacsError.{DimacsError}
 use Rattle.dimacs_front.specs.declared.file.SatError.{SatError}
 use Rattle.szs_prove.specs.Sizes.{IsRefutedIn}
 use Rattle.szs_prove.specs.SizeWords.{size_lines}
-use Rattle.szs_prove.specs.Answers.{IsOutOfBudget, IsProof, IsRefusal, IsVerdict, Reading}
-use Rattle.szs_prove.specs.Answered.{Answered, AsksAtom, AsksChain, AsksCheck, AsksClauses, AsksCore, AsksFormula, AsksModel, AsksProof, AsksRewriting, EndsChain, IsAnswer, IsCoreOutcome, IsFinding, IsInterrupted, IsMeasured, IsModelOutcome, IsNamed, IsReplyOf, IsRewritingOf, OfCertificate, TellsValue, WantsMemory, WritesCertificate, WritesComplaint, WritesCore, WritesFormula, WritesJudgement, WritesModel, WritesNumbers, WritesReply, WritesRewriting, WritesSize, WritesSolved, Writing, ask_exit, ask_text, check_exit, check_text, core_exit, core_reason, core_status, core_text, exit_for, fmodel_exit, fmodel_text, judgement_exit, model_reason, model_status, prove_exit, prove_text, qbf_exit, qbf_text, reply_exit, rewriting_exit, rewriting_text, sat_exit, sat_text, solved_exit, solved_text, stress_exit, stress_text, text_for, unjudged_reason, unjudged_status, value_exit, value_text, TookCertificate}
+use Rattle.szs_prove.specs.Answers.{IsOutOfBudget, IsProof, IsRefusal, IsUndecided, IsVerdict, Reading}
+use Rattle.szs_prove.specs.Answered.{Answered, AsksAtom, AsksChain, AsksCheck, AsksClauses, AsksCore, AsksFormula, AsksModel, AsksProof, AsksRewriting, EndsChain, IsAnswer, IsCoreOutcome, IsFinding, IsInterrupted, IsMeasured, IsModelOutcome, IsNamed, IsReplyOf, IsRewritingOf, OfCertificate, TellsValue, WantsMemory, WritesCertificate, WritesComplaint, WritesCore, WritesFormula, WritesJudgement, WritesModel, WritesNumbers, WritesReply, WritesRewriting, WritesSize, WritesSolved, Writing, ask_exit, ask_text, check_exit, check_text, exit_for, exit_for_problem, judgement_exit, qbf_exit, qbf_text, reply_exit, rewriting_exit, rewriting_text, sat_exit, sat_text, solved_exit, solved_text, stress_exit, stress_text, text_for, text_for_problem, unjudged_reason, unjudged_status, value_exit, value_text}
 use Rattle.szs_prove.specs.Texts.{exit_of, load_reason, load_status, refusal_text, text_reason, text_status, want_text, reason_of, status_of}
-use Rattle.szs_prove.specs.CoreAnswers.{HasCoreAnswer, IsCoreRefusal}
+use Rattle.szs_prove.specs.CoreAnswers.{HasCoreAnswer, IsUncored}
 use Rattle.szs_prove.specs.Formulas.{IsFormulaAnswer, IsFormulaOutcome, IsFormulaRefused}
-use Rattle.szs_prove.specs.ModelAnswers.{HasModelAnswer, IsModelRefusal, IsNoTablesText, IsTablesText}
+use Rattle.szs_prove.specs.ModelAnswers.{HasModelAnswer, IsUnmodelled}
 use Rattle.szs_prove.specs.declared.answer.Answer.{Answer}
 use Rattle.szs_prove.specs.declared.answer.Answer.TheVariants.{Prove, Sat, Check, Rewrite, Ask, Stress, Qbf, Fmodel, Core, Unread, NoWords}
-use Rattle.szs_prove.specs.declared.cores.CoreRefusal.{CoreRefusal}
 use Rattle.szs_prove.specs.declared.exit.Exit.{Exit}
 use Rattle.szs_prove.specs.declared.formula.FormulaAnswer.{FormulaAnswer}
 use Rattle.szs_prove.specs.declared.formula.FormulaAnswer.TheVariants.{True, False}
-use Rattle.szs_prove.specs.declared.model.ModelRefusal.{ModelRefusal}
+use Rattle.szs_prove.specs.declared.refusal.Reason.TheVariants.{OutOfBudget, TooWide, Functions}
 use Rattle.szs_prove.specs.declared.refusal.Refusal.{Refusal}
-use Rattle.szs_prove.specs.declared.refusal.Refusal.TheVariants.{Load, OutOfBudget, Memory}
+use Rattle.szs_prove.specs.declared.refusal.Refusal.TheVariants.{Load, Unanswered, Memory}
 use Rattle.szs_prove.specs.declared.sizes.Size.{Size}
 use Rattle.cert_front.proofs.Rewritings.{judged}
-use Rattle.cert_format.specs.ValueLines.{IsCertificateText}
-use Rattle.cert_format.proofs.Taken.{no_more}
-use Rattle.cert_format.specs.Formats.{written_format}
-use Rattle.outside_io.specs.Taken.{AppendsProperPrefix}
-use Rattle.szs_prove.specs.CoreTexts.{IsCoreText, IsNoCoreText}
 use Rattle.inst_logic.specs.declared.clause.Problem.{Problem}
-use Rattle.szs_prove.proofs.VerdictTexts.{begins_comment, begins_verdict, has_start, no_comment, no_line, no_other, notice_begins, one_text, second_line, third_is_s}
 use Rattle.outside_io.specs.declared.notices.Status.TheVariants as status
 use Rattle.tptp_read.specs.declared.text.ReadError.TheVariants as text
 use Rattle.tptp_load.specs.declared.error.LoadError.TheVariants as load
@@ -74,9 +67,7 @@ use Rattle.cert_front.specs.declared.check.CheckFault.TheVariants as unjudged
 use Rattle.cert_front.specs.declared.fault.CertFault.TheVariants as cert
 use Rattle.dimacs_front.specs.declared.error.DimacsError.TheVariants as fault
 use Rattle.dimacs_front.specs.declared.file.SatError.TheVariants as bar
-use Rattle.szs_prove.specs.declared.cores.CoreRefusal.TheVariants as no_core
 use Rattle.szs_prove.specs.declared.exit.Exit.TheVariants as exit
-use Rattle.szs_prove.specs.declared.model.ModelRefusal.TheVariants as no_model
 
 -- the text is that of a verdict on what is asked
 record SaysVerdict (words : List (List ℕ)) (read : Reading) (text : List ℕ) : Type 0 where
@@ -97,7 +88,7 @@ record SaysNumbers (words : List (List ℕ)) (read : Reading) (text : List ℕ) 
   wanted : ℕ
   asked : IsAsked words (prove file root budget)
   stopped : IsOutOfBudget read.old.files file root budget left wanted
-  is : text ≡ refusal_text file (OutOfBudget budget left wanted)
+  is : text ≡ refusal_text file (Unanswered (OutOfBudget budget left wanted))
 
 -- the text is the line of what the certificate is found to be, with the exit that goes with it
 record SaysJudgement (question : OfCertificate) (words : List (List ℕ)) (read : Reading) (text : List ℕ) (e : Exit) : Type 0 where
@@ -349,35 +340,41 @@ module _ (words : List (List ℕ)) (read : Reading) where
   qbf_caused file (bar.Text e) h = formula_caused file e h
   qbf_caused file bar.Memory h = refl
 
-  model_caused : (elements : ℕ) (file : List ℕ) (root : Option (List ℕ)) (why : ModelRefusal) → IsModelRefusal read elements file root why → HasCause (model_status why) (model_reason why)
-  model_caused elements file root (no_model.Load e) h = load_caused file root e h
-  model_caused elements file root no_model.TooWide h = tt
-  model_caused elements file root no_model.Memory h = refl
+  model_caused : (elements : ℕ) (file : List ℕ) (root : Option (List ℕ)) (why : Refusal) → IsRefusal (IsUnmodelled elements) read file root why → HasCause (status_of why) (reason_of why)
+  model_caused elements file root (Load e) h = load_caused file root e h
+  model_caused elements file root (Unanswered (OutOfBudget all left least)) h = absurd h.2
+  model_caused elements file root (Unanswered TooWide) h = tt
+  model_caused elements file root (Unanswered (Functions clause)) h = absurd h.2
+  model_caused elements file root Memory h = refl
 
-  core_caused : (file : List ℕ) (root : Option (List ℕ)) (why : CoreRefusal) → IsCoreRefusal read file root why → HasCause (core_status why) (core_reason why)
-  core_caused file root (no_core.Load e) h = load_caused file root e h
-  core_caused file root (no_core.Functions clause) h = tt
-  core_caused file root no_core.Memory h = refl
+  core_caused : (file : List ℕ) (root : Option (List ℕ)) (why : Refusal) → IsRefusal IsUncored read file root why → HasCause (status_of why) (reason_of why)
+  core_caused file root (Load e) h = load_caused file root e h
+  core_caused file root (Unanswered (OutOfBudget all left least)) h = absurd h.2
+  core_caused file root (Unanswered TooWide) h = absurd h.2
+  core_caused file root (Unanswered (Functions clause)) h = tt
+  core_caused file root Memory h = refl
 
   -- ---- each command
 
-  refusal_tells : (file : List ℕ) (root : Option (List ℕ)) (budget : ℕ) → IsAsked words (prove file root budget) → (why : Refusal) → IsRefusal read file root budget why
-      → Tells (refusal_text file why) (prove_exit (Err why))
+  refusal_tells : (file : List ℕ) (root : Option (List ℕ)) (budget : ℕ) → IsAsked words (prove file root budget) → (why : Refusal) → IsRefusal (IsUndecided budget) read file root why
+      → Tells (refusal_text file why) (exit_for_problem (Err why))
   refusal_tells file root budget asked (Load e) h = notice_tells file (load_reason e) (named_by (prove file root budget) asked) (load_status e) (load_caused file root e h)
-  refusal_tells file root budget asked (OutOfBudget all left least) h = record {
+  refusal_tells file root budget asked (Unanswered (OutOfBudget all left least)) h = record {
     file = file;
     root = root;
     budget = budget;
     left = left;
     wanted = least;
     asked = asked;
-    stopped = h.1;
-    is = subst (λ (n : ℕ). refusal_text file (OutOfBudget all left least) ≡ refusal_text file (OutOfBudget n left least)) h.0 refl;
+    stopped = record { problem = h.0; is_problem = h.1; stopped = h.2.1 };
+    is = ap (λ (n : ℕ). refusal_text file (Unanswered (OutOfBudget n left least))) h.2.0;
   }
+  refusal_tells file root budget asked (Unanswered TooWide) h = absurd h.2
+  refusal_tells file root budget asked (Unanswered (Functions clause)) h = absurd h.2
   refusal_tells file root budget asked Memory h = record { name = file; named = named_by (prove file root budget) asked; is = refl }
 
   prove_tells : (file : List ℕ) (root : Option (List ℕ)) (budget : ℕ) → IsAsked words (prove file root budget) → (o : Result (List ℕ) Refusal) → IsProof read file root budget o
-      → Tells (prove_text file o) (prove_exit o)
+      → Tells (text_for_problem file o) (exit_for_problem o)
   prove_tells file root budget asked (Ok text) h =
       (prove file root budget, asked, record { file = file; root = root; budget = budget; asked = asked; certificate = h.0; is_verdict = h.1; is = h.2 })
   prove_tells file root budget asked (Err why) h = refusal_tells file root budget asked why h
@@ -470,14 +467,14 @@ module _ (words : List (List ℕ)) (read : Reading) where
   qbf_tells file asked (Ok (False text)) h = (qbf file, asked, formula_says file asked (False text) h)
   qbf_tells file asked (Err e) h = notice_tells file (refusal_reason file e) (named_by (qbf file) asked) (refusal_status e) (qbf_caused file e h)
 
-  fmodel_tells : (elements : ℕ) (file : List ℕ) (root : Option (List ℕ)) → IsAsked words (fmodel elements file root) → (o : Result (List ℕ) ModelRefusal) → IsModelOutcome read elements file root o
-      → Tells (fmodel_text file o) (fmodel_exit o)
+  fmodel_tells : (elements : ℕ) (file : List ℕ) (root : Option (List ℕ)) → IsAsked words (fmodel elements file root) → (o : Result (List ℕ) Refusal) → IsModelOutcome read elements file root o
+      → Tells (text_for_problem file o) (exit_for_problem o)
   fmodel_tells elements file root asked (Ok text) h = (fmodel elements file root, asked, record { elements = elements; file = file; root = root; asked = asked; shown = h })
-  fmodel_tells elements file root asked (Err why) h = notice_tells file (model_reason why) (named_by (fmodel elements file root) asked) (model_status why) (model_caused elements file root why h)
+  fmodel_tells elements file root asked (Err why) h = notice_tells file (reason_of why) (named_by (fmodel elements file root) asked) (status_of why) (model_caused elements file root why h)
 
-  core_tells : (file : List ℕ) (root : Option (List ℕ)) → IsAsked words (core file root) → (o : Result (List ℕ) CoreRefusal) → IsCoreOutcome read file root o → Tells (core_text file o) (core_exit o)
+  core_tells : (file : List ℕ) (root : Option (List ℕ)) → IsAsked words (core file root) → (o : Result (List ℕ) Refusal) → IsCoreOutcome read file root o → Tells (text_for_problem file o) (exit_for_problem o)
   core_tells file root asked (Ok text) h = (core file root, asked, record { file = file; root = root; asked = asked; shown = h })
-  core_tells file root asked (Err why) h = notice_tells file (core_reason why) (named_by (core file root) asked) (core_status why) (core_caused file root why h)
+  core_tells file root asked (Err why) h = notice_tells file (reason_of why) (named_by (core file root) asked) (status_of why) (core_caused file root why h)
 
   tells : (name : List ℕ) (a : Answer) → IsAnswer words read name a → Tells (text_for name a) (exit_for a)
   tells name (Prove o) h = prove_tells name h.0 h.1 h.2 o h.3
@@ -701,101 +698,3 @@ module _ (words : List (List ℕ)) (read : Reading) (write : Writing) (e : Exit)
     where
       by : SaysWant words read said → Appends write.old.taken write.new.taken said → WantsMemory words read write
       by s w = inl (record { name = s.name; named = s.named; written = subst (Appends write.old.taken write.new.taken) s.is w })
-
--- ---- where the text of a certificate was taken taken_whole, the answer is a verdict
-
-judgement_begins : (f : Form) (j : Judgement) → begins_comment (judgement_line f j) ≡ false
-judgement_begins f judgement.Valid = refl
-judgement_begins f (judgement.Problem n) = refl
-judgement_begins f (judgement.Invalid why) = refl
-
-reply_begins : (r : Reply) → begins_comment (reply_line r) ≡ false
-reply_begins reply.True = refl
-reply_begins reply.False = refl
-reply_begins (reply.Invalid why) = refl
-
-tables_third : (k : ℕ) (file : List ℕ) (p : Problem) (text : List ℕ) → IsTablesText k file p text ⊎ IsNoTablesText k file p text → third_is_s text ≡ false
-tables_third k file p text (inl h) = ap third_is_s h.is
-tables_third k file p text (inr h) = ap third_is_s h.is
-
-core_third : (p : Problem) (file text : List ℕ) → IsCoreText p file text ⊎ IsNoCoreText p file text → third_is_s text ≡ false
-core_third p file text (inl h) = ap third_is_s h.is
-core_third p file text (inr h) = ap third_is_s h.is
-
-no_chain : (size : Size) (text more : List ℕ) → IsCertificateText text → size_lines size ≡ text ++ more → ⊥
-no_chain size text more h e =
-    let yes : has_start (text ++ more) ≡ true = ap (λ t. has_start (t ++ more)) h.is ∙ second_line h.format h.name h.value more h.name_is in
-    let no : has_start (text ++ more) ≡ false = sym (ap has_start e) in
-    cc
-
-module _ (words : List (List ℕ)) (read : Reading) (write : Writing) (e : Exit) (a : Answered words read write e) (t : TookCertificate write.old.taken write.new.taken) where
-  no_notice : (s : Status) (name reason more : List ℕ) → notice_text s name reason ≡ t.text ++ more → ⊥
-  no_notice s name reason more same = no_other (notice_text s name reason) t.text more (notice_begins s name reason) t.is_text same
-
-  prove_decides : (name : List ℕ) (root : Option (List ℕ)) (budget : ℕ) (o : Result (List ℕ) Refusal) → IsProof read name root budget o → (more : List ℕ)
-      → prove_text name o ≡ t.text ++ more → (prove_exit o ≡ exit.Decided) × (more ≡ [])
-  prove_decides name root budget (Ok text) h more same =
-      let is : IsCertificateText (t.text ++ more) = record { format = written_format; name = name; value = h.0; name_is = h.1.name; printable = h.1.certifies.printable; is = sym same ∙ h.2 } in
-      (refl, no_more t.text more t.is_text is)
-  prove_decides name root budget (Err why) h more same = absurd (no_notice (status_of why) name (reason_of why) more same)
-
-  rewriting_decides : (name : List ℕ) (problem root : Option (List ℕ)) (o : Result Rewriting CheckFault) → IsRewritingOf read name problem root o → (more : List ℕ)
-      → rewriting_text name o ≡ t.text ++ more → (rewriting_exit o ≡ exit.Decided) × (more ≡ [])
-  rewriting_decides name problem root (Ok (rewriting.Text text)) h more same =
-      let new = h.rewritten.so.1 in
-      let is : IsCertificateText (t.text ++ more) = record { format = written_format; name = h.held.text.1; value = new.value; name_is = h.held.text.2.name_is; printable = new.printable; is = sym same ∙ new.is } in
-      (refl, no_more t.text more t.is_text is)
-  rewriting_decides name problem root (Ok (rewriting.Refused form j)) h more same = absurd (no_line (judgement_line form j) t.text more (judgement_begins form j) t.is_text same)
-  rewriting_decides name problem root (Err why) h more same = absurd (no_notice (unjudged_status why) name (unjudged_reason name why) more same)
-
-  not_values : (name : List ℕ) (o : Result SatAnswer SatError) → IsOutcome read.old read.new name o → (more : List ℕ) → sat_text name o ≡ t.text ++ more → ⊥
-  not_values name (Ok (Satisfiable text)) h more same = no_other text t.text more (ap begins_verdict h.4.is) t.is_text same
-  not_values name (Ok (Unsatisfiable text)) h more same = no_other text t.text more (ap begins_verdict h.4.is) t.is_text same
-  not_values name (Err e) h more same = no_notice (refusal_status e) name (refusal_reason name e) more same
-
-  not_formula : (name : List ℕ) (o : Result FormulaAnswer SatError) → IsFormulaOutcome read.old read.new name o → (more : List ℕ) → qbf_text name o ≡ t.text ++ more → ⊥
-  not_formula name (Ok (True text)) h more same = no_line text t.text more (ap begins_comment h.4.1.is) t.is_text same
-  not_formula name (Ok (False text)) h more same = no_line text t.text more (ap begins_comment h.4.1.is) t.is_text same
-  not_formula name (Err e) h more same = no_notice (refusal_status e) name (refusal_reason name e) more same
-
-  not_tables : (elements : ℕ) (name : List ℕ) (root : Option (List ℕ)) (o : Result (List ℕ) ModelRefusal) → IsModelOutcome read elements name root o → (more : List ℕ) → fmodel_text name o ≡ t.text ++ more → ⊥
-  not_tables elements name root (Ok text) h more same = no_comment text t.text more (tables_third elements name h.0 text h.2.said) t.is_text same
-  not_tables elements name root (Err why) h more same = no_notice (model_status why) name (model_reason why) more same
-
-  not_core : (name : List ℕ) (root : Option (List ℕ)) (o : Result (List ℕ) CoreRefusal) → IsCoreOutcome read name root o → (more : List ℕ) → core_text name o ≡ t.text ++ more → ⊥
-  not_core name root (Ok text) h more same = no_comment text t.text more (core_third h.0 name text h.3) t.is_text same
-  not_core name root (Err why) h more same = no_notice (core_status why) name (core_reason why) more same
-
-  -- an answer whose text has the certificate's in front
-  has_certificate : (name : List ℕ) (answer : Answer) → IsAnswer words read name answer → (more : List ℕ) → text_for name answer ≡ t.text ++ more → (exit_for answer ≡ exit.Decided) × (more ≡ [])
-  has_certificate name (Prove o) h more same = prove_decides name h.0 h.1 o h.3 more same
-  has_certificate name (Sat o) h more same = absurd (not_values name o h.1 more same)
-  has_certificate name (Check (Ok found)) h more same = absurd (no_line (judgement_line found.0 found.1) t.text more (judgement_begins found.0 found.1) t.is_text same)
-  has_certificate name (Check (Err why)) h more same = absurd (no_notice (unjudged_status why) name (unjudged_reason name why) more same)
-  has_certificate name (Rewrite o) h more same = rewriting_decides name h.0 h.1 o h.3 more same
-  has_certificate name (Ask (Ok r)) h more same = absurd (no_line (reply_line r) t.text more (reply_begins r) t.is_text same)
-  has_certificate name (Ask (Err f)) h more same = absurd (no_notice (fault_status f) name (fault_reason name f) more same)
-  has_certificate name (Stress (Ok size)) h more same = absurd (no_chain size t.text more t.is_text same)
-  has_certificate name (Stress (Err want)) h more same = absurd (no_notice status.MemoryOut name [] more same)
-  has_certificate name (Qbf o) h more same = absurd (not_formula name o h.1 more same)
-  has_certificate name (Fmodel o) h more same = absurd (not_tables h.0 name h.1 o h.3 more same)
-  has_certificate name (Core o) h more same = absurd (not_core name h.0 o h.2 more same)
-  has_certificate name Unread h more same = absurd (no_notice status.UsageError name (codes "% usage\n") more same)
-  has_certificate name NoWords h more same = absurd (no_notice status.MemoryOut name [] more same)
-
-  abbrev told_text : List ℕ
-  told_text = text_for a.name a.answer
-
-  taken_whole : Appends write.old.taken write.new.taken told_text → exit_for a.answer ≡ exit.Decided
-  taken_whole w = (has_certificate a.name a.answer a.cause [] (one_text write.old.taken write.new.taken t.taken told_text t.text t.told w t.written ∙ sym (append-nil t.text))).0
-
-  not_cut : AppendsProperPrefix write.old.taken write.new.taken told_text → ⊥
-  not_cut (front, rest, same, some, w) =
-      let is : front ≡ t.text = one_text write.old.taken write.new.taken t.taken front t.text t.told w t.written in
-      some (has_certificate a.name a.answer a.cause rest (same ∙ ap (λ (x : List ℕ). x ++ rest) is)).1
-
-  pub took_verdict : e ≡ exit.Decided
-  took_verdict = elim a.written [
-    | inl w ↦ w.0 ∙ taken_whole w.1
-    | inr v ↦ elim v [ inl w ↦ absurd (not_cut w.1) | inr w ↦ absurd (not_cut w.1) ]
-  ]

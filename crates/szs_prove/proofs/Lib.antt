@@ -9,7 +9,10 @@ pub mod Endings
 pub mod FirstFunctions
 pub mod Loaded
 pub mod Proved
+pub mod Refused
+mod Refused
 pub mod Situated
+pub mod TakenVerdicts
 pub mod VerdictTexts
 pub mod CellLines
 pub mod CoreAnswered

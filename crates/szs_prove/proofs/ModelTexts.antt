@@ -1,6 +1,6 @@
 -- What the parts of the command for models say of the whole.
 use Rattle.std.proofs.Common.{◌≡◌, ◌++◌, ◌<◌, ◌≤◌, ◌^◌, inl, inr, ℕ, List, Option, length, ap, ◌∙◌, subst as transport, arith}
-use Rattle.std.specs.Prelude.{All, Any, IfOk, IfErr, IsTrue, Result, Ok, Err}
+use Rattle.std.specs.Prelude.{All, Any, IfOk, IsTrue, Result, Ok, Err}
 use Rattle.std.proofs.lemmas.List.Elements.{All-weaker}
 use Rattle.inst_logic.specs.declared.clause.Problem.{Problem}
 use Rattle.inst_logic.specs.Clauses.{TreeClause, IsCanonical, IsGround, IsInstance}
@@ -24,14 +24,12 @@ use Rattle.finite_model.specs.Flattening.{flattened, flattened_names}
 use Rattle.finite_model.proofs.CellCounts.{few_symbols}
 use Rattle.finite_model.proofs.FlatForm.{flattened_canonical, flattened_formed, flattened_readable, flattened_without_axioms, names_count, names_readable}
 use Rattle.finite_model.proofs.NoModel.{not_refuted}
-use Rattle.szs_prove.specs.Answers.{IsProblemOf, Reading}
+use Rattle.szs_prove.specs.Answers.{IsProblemOf}
 use Rattle.szs_prove.specs.Decisions.{IsDecision, IsShownBy}
-use Rattle.szs_prove.specs.ModelAnswers.{HasModelAnswer, IsModelRefusal, IsModelText, IsNoTablesText, IsTablesText, IsUnmodelled, flattened_problem}
+use Rattle.szs_prove.specs.ModelAnswers.{HasModelAnswer, IsModelText, IsNoTablesText, IsTablesText, flattened_problem}
 use Rattle.szs_prove.specs.TableTexts.{no_tables_line, tables_text}
 use Rattle.szs_prove.specs.declared.decision.Decision.{Decision}
 use Rattle.szs_prove.specs.declared.decision.Decision.TheVariants.{Unsatisfiable, Satisfiable}
-use Rattle.szs_prove.specs.declared.model.ModelRefusal.{ModelRefusal}
-use Rattle.szs_prove.specs.declared.model.ModelRefusal.TheVariants.{Load, TooWide, Memory}
 
 -- ---- the flattened form
 
@@ -106,14 +104,3 @@ pub all_texts : {E : Type 0} (files : Option (List NamedFile)) (k : ℕ) (file :
     → (r : Result (List ℕ) E) → IfOk r (IsModelText k file p) → IfOk r (HasModelAnswer files k file root)
 all_texts files k file root p is (Ok text) h = (p, is, h)
 all_texts files k file root p is (Err e) h = tt
-
-refusal_of : (read : Reading) (k : ℕ) (file : List ℕ) (root : Option (List ℕ)) (p : Problem) (why : ModelRefusal) → IsProblemOf read.old.files file root p → IsUnmodelled k p why
-    → IsModelRefusal read k file root why
-refusal_of read k file root p (Load e) is h = absurd h
-refusal_of read k file root p TooWide is h = (p, is, h)
-refusal_of read k file root p Memory is h = tt
-
-pub all_refusals : {T : Type 0} (read : Reading) (k : ℕ) (file : List ℕ) (root : Option (List ℕ)) (p : Problem) → IsProblemOf read.old.files file root p
-    → (r : Result T ModelRefusal) → IfErr r (IsUnmodelled k p) → IfErr r (IsModelRefusal read k file root)
-all_refusals read k file root p is (Ok text) h = tt
-all_refusals read k file root p is (Err why) h = refusal_of read k file root p why is h

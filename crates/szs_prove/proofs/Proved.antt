@@ -1,6 +1,6 @@
 -- What the parts of the command `prove` say of the whole.
 use Rattle.std.proofs.Common.{◌≡◌, ℕ, List, Option, refl, subst}
-use Rattle.std.specs.Prelude.{IfOk, IfErr, Result, Ok, Err}
+use Rattle.std.specs.Prelude.{IfOk, Result, Ok, Err}
 use Rattle.inst_logic.specs.declared.clause.Problem.{Problem}
 use Rattle.outside_io.specs.declared.library.NamedFile.{NamedFile}
 use Rattle.cert_format.specs.Printable.{IsTextName}
@@ -12,10 +12,9 @@ use Rattle.szs_prove.specs.Decisions.{IsDecision}
 use Rattle.szs_prove.specs.declared.decision.Decision.{Decision}
 use Rattle.szs_prove.specs.declared.decision.Decision.TheVariants as decision
 use Rattle.szs_prove.specs.declared.decision.Decision.TheVariants.{Unsatisfiable, Satisfiable}
-use Rattle.szs_prove.specs.Answers.{HasVerdict, IsProblemOf, IsRefusal, Reading}
-use Rattle.szs_prove.specs.Proving.{HasCertificate, IsUndecided}
-use Rattle.szs_prove.specs.declared.refusal.Refusal.{Refusal}
-use Rattle.szs_prove.specs.declared.refusal.Refusal.TheVariants.{Load, OutOfBudget, Memory}
+use Rattle.szs_prove.specs.Answers.{HasVerdict, IsProblemOf, IsUndecided}
+use Rattle.szs_prove.specs.Proving.{HasCertificate}
+use Rattle.szs_prove.specs.declared.refusal.Reason.TheVariants.{OutOfBudget}
 
 -- ---- what was decided of a problem
 
@@ -27,7 +26,7 @@ module _ (p : Problem) (budget : ℕ) (file text : List ℕ) (d : Decision) (h :
   satisfied_text c is same = record { certificate = covered_value c; shown = subst (IsDecision p budget) is h; is = same }
 
 -- nothing else is a reason than want of budget
-pub stopped : (p : Problem) (budget left wanted : ℕ) (d : Decision) → IsDecision p budget d → d ≡ decision.OutOfBudget left wanted → IsUndecided p budget (OutOfBudget budget left wanted)
+pub stopped : (p : Problem) (budget left wanted : ℕ) (d : Decision) → IsDecision p budget d → d ≡ decision.OutOfBudget left wanted → IsUndecided budget p (OutOfBudget budget left wanted)
 stopped p budget left wanted d h is = (refl, subst (IsDecision p budget) is h)
 
 -- ---- the problem of a file
@@ -37,14 +36,3 @@ pub all_verdicts : {E : Type 0} (files : Option (List NamedFile)) (file : List �
 all_verdicts files file root p name is (Ok text) h =
     (h.certificate, record { problem = p; is_problem = is; certifies = h.shown.certifies; replayed = h.shown.replayed; name = name }, h.is)
 all_verdicts files file root p name is (Err e) h = tt
-
-refusal_of : (read : Reading) (file : List ℕ) (root : Option (List ℕ)) (budget : ℕ) (p : Problem) (why : Refusal) → IsProblemOf read.old.files file root p → IsUndecided p budget why
-    → IsRefusal read file root budget why
-refusal_of read file root budget p (Load e) is h = absurd h
-refusal_of read file root budget p (OutOfBudget all left wanted) is h = (h.0, record { problem = p; is_problem = is; stopped = h.1 })
-refusal_of read file root budget p Memory is h = tt
-
-pub all_refusals : {T : Type 0} (read : Reading) (file : List ℕ) (root : Option (List ℕ)) (budget : ℕ) (p : Problem) → IsProblemOf read.old.files file root p
-    → (r : Result T Refusal) → IfErr r (IsUndecided p budget) → IfErr r (IsRefusal read file root budget)
-all_refusals read file root budget p is (Ok text) h = tt
-all_refusals read file root budget p is (Err why) h = refusal_of read file root budget p why is h

@@ -44,28 +44,25 @@ use Rattle.dimacs_front.specs.declared.error.DimacsError.{DimacsError}
 use Rattle.dimacs_front.specs.declared.error.DimacsError.TheVariants as fault
 use Rattle.dimacs_front.specs.declared.file.SatError.{SatError}
 use Rattle.dimacs_front.specs.declared.file.SatError.TheVariants as bar
-use Rattle.szs_prove.specs.Answers.{HasVerdict, IsOutOfBudget, IsProblemOf, IsProof, IsRefusal, Reading}
-use Rattle.szs_prove.specs.Answered.{Answered, Finding, Finds, IsAnswer, IsBarred, IsCoreOutcome, IsExact, IsFinding, IsFlat, IsLoaded, IsModelOutcome, IsRead, IsRefusedBy, IsReplyOf, IsRewritingOf, IsTabled, IsWanted, Situation, Stands, TextRelation, Wants, Writing, Yields, ask_exit, asks, check_exit, core_exit, exit_for, fmodel_exit, judgement_exit, prove_exit, qbf_exit, reply_exit, rewriting_exit, sat_exit, stress_exit, unjudged_status, unread}
+use Rattle.szs_prove.specs.Answers.{HasVerdict, IsProblemOf, IsProof, IsRefusal, IsUndecided, Reading, ReasonRelation}
+use Rattle.szs_prove.specs.Answered.{Answered, Finding, Finds, IsAnswer, IsBarred, IsCoreOutcome, IsExact, IsFinding, IsFitting, IsLoaded, IsModelOutcome, IsRead, IsRefusedBy, IsReplyOf, IsRewritingOf, IsWanted, Situation, Stands, TextRelation, Wants, Writing, Yields, ask_exit, asks, check_exit, exit_for, exit_for_problem, judgement_exit, qbf_exit, reply_exit, rewriting_exit, sat_exit, stress_exit, unjudged_status, unread}
 use Rattle.szs_prove.specs.Texts.{exit_of, load_status, text_status}
-use Rattle.szs_prove.specs.Applications.{IsFirstWithFunctions}
-use Rattle.szs_prove.specs.CoreAnswers.{HasCoreAnswer}
+use Rattle.szs_prove.specs.CoreAnswers.{HasCoreAnswer, IsUncored}
 use Rattle.szs_prove.specs.Formulas.{IsFormulaOutcome, IsFormulaRefused}
-use Rattle.szs_prove.specs.ModelAnswers.{HasModelAnswer}
+use Rattle.szs_prove.specs.ModelAnswers.{HasModelAnswer, IsUnmodelled}
 use Rattle.dimacs_front.specs.Notices.{fault_status as status_of_text}
 use Rattle.szs_prove.proofs.Endings.{AsksOne}
 use Rattle.szs_prove.proofs.FirstFunctions.{not_free, one_first}
 use Rattle.szs_prove.specs.declared.answer.Answer.{Answer}
 use Rattle.szs_prove.specs.declared.answer.Answer.TheVariants.{Prove, Sat, Check, Rewrite, Ask, Stress, Qbf, Fmodel, Core, Unread, NoWords}
-use Rattle.szs_prove.specs.declared.cores.CoreRefusal.{CoreRefusal}
-use Rattle.szs_prove.specs.declared.cores.CoreRefusal.TheVariants as no_core
 use Rattle.szs_prove.specs.declared.exit.Exit.{Exit}
 use Rattle.szs_prove.specs.declared.exit.Exit.TheVariants as exit
 use Rattle.szs_prove.specs.declared.formula.FormulaAnswer.{FormulaAnswer}
 use Rattle.szs_prove.specs.declared.formula.FormulaAnswer.TheVariants.{True, False}
-use Rattle.szs_prove.specs.declared.model.ModelRefusal.{ModelRefusal}
-use Rattle.szs_prove.specs.declared.model.ModelRefusal.TheVariants as no_model
+use Rattle.szs_prove.specs.declared.refusal.Reason.{Reason}
+use Rattle.szs_prove.specs.declared.refusal.Reason.TheVariants.{OutOfBudget, TooWide, Functions}
 use Rattle.szs_prove.specs.declared.refusal.Refusal.{Refusal}
-use Rattle.szs_prove.specs.declared.refusal.Refusal.TheVariants.{Load, OutOfBudget, Memory}
+use Rattle.szs_prove.specs.declared.refusal.Refusal.TheVariants.{Load, Unanswered, Memory}
 use Rattle.szs_prove.specs.declared.sizes.Size.{Size}
 
 -- ---- a file in the DIMACS form
@@ -169,42 +166,60 @@ one_loaded one files file root (Ok p) (Err e) h k = absurd (one.apart files file
 one_loaded one files file root (Err e) (Ok p) h k = absurd (one.apart files file root p e k h)
 one_loaded one files file root (Err e) (Err f) h k = ap Err (one.refusals files file root e f h k)
 
-module _ (one : LoadsOne) (files : List NamedFile) (elements : ℕ) (file : List ℕ) (root : Option (List ℕ)) where
-  not_wide : (p q : Problem) → Loads files file root p → ¬ IsTooWide elements p.clauses → Loads files file root q → IsTooWide elements q.clauses → ⊥
-  not_wide p q h small k wide = small (subst (λ (r : Problem). IsTooWide elements r.clauses) (one.problems files file root q p k h) wide)
+-- a problem either fits or is barred, and that for one reason
+record IsSplit (fits : Problem → Type 0) (bars : ReasonRelation) : Type 0 where
+  apart : (p : Problem) (r : Reason) → fits p → bars p r → ⊥
+  once : (p : Problem) (r s : Reason) → bars p r → bars p s → r ≡ s
 
-  one_tabled : (s t : Result Problem ModelRefusal) → IsTabled files elements file root s → IsTabled files elements file root t → s ≡ t
-  one_tabled (Ok p) (Ok q) h k = ap Ok (one.problems files file root p q h.0 k.0)
-  one_tabled (Ok p) (Err (no_model.Load e)) h k = absurd (one.apart files file root p e h.0 k)
-  one_tabled (Ok p) (Err no_model.TooWide) h k = absurd (not_wide p k.0 h.0 h.1 k.1 k.2)
-  one_tabled (Err (no_model.Load e)) (Ok p) h k = absurd (one.apart files file root p e k.0 h)
-  one_tabled (Err no_model.TooWide) (Ok p) h k = absurd (not_wide p h.0 k.0 k.1 h.1 h.2)
-  one_tabled (Err (no_model.Load e)) (Err (no_model.Load f)) h k = ap (λ (x : LoadError). Err (no_model.Load x)) (one.refusals files file root e f h k)
-  one_tabled (Err (no_model.Load e)) (Err no_model.TooWide) h k = absurd (one.apart files file root k.0 e k.1 h)
-  one_tabled (Err no_model.TooWide) (Err (no_model.Load e)) h k = absurd (one.apart files file root h.0 e h.1 k)
-  one_tabled (Err no_model.TooWide) (Err no_model.TooWide) h k = refl
-  one_tabled (Err no_model.Memory) t h k = absurd h
-  one_tabled s (Err no_model.Memory) h k = absurd k
+module _ (one : LoadsOne) (fits : Problem → Type 0) (bars : ReasonRelation) (split : IsSplit fits bars) (files : List NamedFile) (file : List ℕ) (root : Option (List ℕ)) where
+  not_barred : (p q : Problem) (r : Reason) → Loads files file root p → fits p → Loads files file root q → bars q r → ⊥
+  not_barred p q r h fit k barred = split.apart p r fit (subst (λ (x : Problem). bars x r) (one.problems files file root q p k h) barred)
 
-module _ (one : LoadsOne) (files : List NamedFile) (file : List ℕ) (root : Option (List ℕ)) where
-  not_flat : (p q : Problem) (n : ℕ) → Loads files file root p → IsTrue (is_function_free p.clauses) → Loads files file root q → IsFirstWithFunctions q.clauses n → ⊥
-  not_flat p q n h free k first = not_free p.clauses n (subst (λ (r : Problem). IsFirstWithFunctions r.clauses n) (one.problems files file root q p k h) first) free
+  same_reason : (p q : Problem) (r s : Reason) → Loads files file root p → bars p r → Loads files file root q → bars q s → r ≡ s
+  same_reason p q r s h first k other = split.once p r s first (subst (λ (x : Problem). bars x s) (one.problems files file root q p k h) other)
 
-  same_first : (p q : Problem) (m n : ℕ) → Loads files file root p → IsFirstWithFunctions p.clauses m → Loads files file root q → IsFirstWithFunctions q.clauses n → m ≡ n
-  same_first p q m n h first k other = one_first p.clauses m n first (subst (λ (r : Problem). IsFirstWithFunctions r.clauses n) (one.problems files file root q p k h) other)
+  one_fitting : (s t : Result Problem Refusal) → IsFitting fits bars files file root s → IsFitting fits bars files file root t → s ≡ t
+  one_fitting (Ok p) (Ok q) h k = ap Ok (one.problems files file root p q h.0 k.0)
+  one_fitting (Ok p) (Err (Load e)) h k = absurd (one.apart files file root p e h.0 k)
+  one_fitting (Ok p) (Err (Unanswered r)) h k = absurd (not_barred p k.0 r h.0 h.1 k.1 k.2)
+  one_fitting (Err (Load e)) (Ok p) h k = absurd (one.apart files file root p e k.0 h)
+  one_fitting (Err (Unanswered r)) (Ok p) h k = absurd (not_barred p h.0 r k.0 k.1 h.1 h.2)
+  one_fitting (Err (Load e)) (Err (Load f)) h k = ap (λ (x : LoadError). Err (Load x)) (one.refusals files file root e f h k)
+  one_fitting (Err (Load e)) (Err (Unanswered r)) h k = absurd (one.apart files file root k.0 e k.1 h)
+  one_fitting (Err (Unanswered r)) (Err (Load e)) h k = absurd (one.apart files file root h.0 e h.1 k)
+  one_fitting (Err (Unanswered r)) (Err (Unanswered s)) h k = ap (λ (x : Reason). Err (Unanswered x)) (same_reason h.0 k.0 r s h.1 h.2 k.1 k.2)
+  one_fitting (Err Memory) t h k = absurd h
+  one_fitting s (Err Memory) h k = absurd k
 
-  one_flat : (s t : Result Problem CoreRefusal) → IsFlat files file root s → IsFlat files file root t → s ≡ t
-  one_flat (Ok p) (Ok q) h k = ap Ok (one.problems files file root p q h.0 k.0)
-  one_flat (Ok p) (Err (no_core.Load e)) h k = absurd (one.apart files file root p e h.0 k)
-  one_flat (Ok p) (Err (no_core.Functions n)) h k = absurd (not_flat p k.0 n h.0 h.1 k.1 k.2)
-  one_flat (Err (no_core.Load e)) (Ok p) h k = absurd (one.apart files file root p e k.0 h)
-  one_flat (Err (no_core.Functions n)) (Ok p) h k = absurd (not_flat p h.0 n k.0 k.1 h.1 h.2)
-  one_flat (Err (no_core.Load e)) (Err (no_core.Load f)) h k = ap (λ (x : LoadError). Err (no_core.Load x)) (one.refusals files file root e f h k)
-  one_flat (Err (no_core.Load e)) (Err (no_core.Functions n)) h k = absurd (one.apart files file root k.0 e k.1 h)
-  one_flat (Err (no_core.Functions n)) (Err (no_core.Load e)) h k = absurd (one.apart files file root h.0 e h.1 k)
-  one_flat (Err (no_core.Functions m)) (Err (no_core.Functions n)) h k = ap (λ (x : ℕ). Err (no_core.Functions x)) (same_first h.0 k.0 m n h.1 h.2 k.1 k.2)
-  one_flat (Err no_core.Memory) t h k = absurd h
-  one_flat s (Err no_core.Memory) h k = absurd k
+tables_split : (elements : ℕ) → IsSplit (λ p. ¬ IsTooWide elements p.clauses) (IsUnmodelled elements)
+tables_split elements = record { apart = apart; once = once }
+  where
+    apart : (p : Problem) (r : Reason) → ¬ IsTooWide elements p.clauses → IsUnmodelled elements p r → ⊥
+    apart p (OutOfBudget all left least) small h = absurd h
+    apart p TooWide small wide = small wide
+    apart p (Functions clause) small h = absurd h
+
+    once : (p : Problem) (r s : Reason) → IsUnmodelled elements p r → IsUnmodelled elements p s → r ≡ s
+    once p (OutOfBudget all left least) s h k = absurd h
+    once p (Functions clause) s h k = absurd h
+    once p TooWide (OutOfBudget all left least) h k = absurd k
+    once p TooWide (Functions clause) h k = absurd k
+    once p TooWide TooWide h k = refl
+
+cores_split : IsSplit (λ p. IsTrue (is_function_free p.clauses)) IsUncored
+cores_split = record { apart = apart; once = once }
+  where
+    apart : (p : Problem) (r : Reason) → IsTrue (is_function_free p.clauses) → IsUncored p r → ⊥
+    apart p (OutOfBudget all left least) free h = absurd h
+    apart p TooWide free h = absurd h
+    apart p (Functions clause) free first = not_free p.clauses clause first free
+
+    once : (p : Problem) (r s : Reason) → IsUncored p r → IsUncored p s → r ≡ s
+    once p (OutOfBudget all left least) s h k = absurd h
+    once p TooWide s h k = absurd h
+    once p (Functions m) (OutOfBudget all left least) h k = absurd k
+    once p (Functions m) TooWide h k = absurd k
+    once p (Functions m) (Functions n) h k = ap Functions (one_first p.clauses m n h k)
 
 -- that a text is of one form in one way
 pub record FormsOne : Type 0 where
@@ -220,8 +235,9 @@ one_found loads found forms files (rewrite cert problem root) x y h k = found.0 
 one_found loads found forms files (ask cert atom) x y h k = found.1 files cert atom.atom x y h k
 one_found loads found forms files (stress number) x y h k = refl
 one_found loads found forms files (qbf file) x y h k = one_read Formula IsQdimacs IsFormulaRefusal forms.qdimacs files file x y h k
-one_found loads found forms files (fmodel elements file root) x y h k = one_tabled loads files elements file root x y h k
-one_found loads found forms files (core file root) x y h k = one_flat loads files file root x y h k
+one_found loads found forms files (fmodel elements file root) x y h k =
+    one_fitting loads (λ p. ¬ IsTooWide elements p.clauses) (IsUnmodelled elements) (tables_split elements) files file root x y h k
+one_found loads found forms files (core file root) x y h k = one_fitting loads (λ p. IsTrue (is_function_free p.clauses)) IsUncored cores_split files file root x y h k
 
 -- ---- the exit of each answer
 
@@ -259,50 +275,59 @@ module _ (words : List (List ℕ)) (files : List NamedFile) (read : Reading) (wr
   load_due file root load.ReadFault h refused = fault_due h
   load_due file root load.Memory h refused = want_due
 
-  refusal_due : (file : List ℕ) (root : Option (List ℕ)) (budget : ℕ) → IsAsked words (prove file root budget) → (why : Refusal) → IsRefusal read file root budget why
-      → IsDue (prove_exit (Err why))
-  refusal_due file root budget asked (Load e) h =
-      load_due file root e (subst (λ (o : Option (List NamedFile)). IsLoadCause o read.old.faults read.new.faults file root e) told h)
-      (λ refuses. due (prove file root budget) (Err e) exit.Refused asked refuses refl)
-  refusal_due file root budget asked (OutOfBudget all left least) h =
-      let o = subst (λ (fs : Option (List NamedFile)). IsOutOfBudget fs file root budget left least) told h.1 in
-      due (prove file root budget) (Ok o.problem) exit.ResourceOut asked o.is_problem.loads (inr (refl, o.stopped.ends.functions))
-  refusal_due file root budget asked Memory h = want_due
-
-  prove_due : (file : List ℕ) (root : Option (List ℕ)) (budget : ℕ) → IsAsked words (prove file root budget) → (o : Result (List ℕ) Refusal) → IsProof read file root budget o
-      → IsDue (prove_exit o)
-  prove_due file root budget asked (Ok text) h =
-      let v = subst (λ (fs : Option (List NamedFile)). HasVerdict fs file root text) told h in
-      due (prove file root budget) (Ok v.1.problem) exit.Decided asked v.1.is_problem.loads (inl refl)
-  prove_due file root budget asked (Err why) h = refusal_due file root budget asked why h
-
   -- the cause of a load, where the files are told
   load_here : (file : List ℕ) (root : Option (List ℕ)) (e : LoadError) → IsLoadCause read.old.files read.old.faults read.new.faults file root e
       → IsLoadCause (Some files) read.old.faults read.new.faults file root e
   load_here file root e h = subst (λ (o : Option (List NamedFile)). IsLoadCause o read.old.faults read.new.faults file root e) told h
 
-  fmodel_due : (elements : ℕ) (file : List ℕ) (root : Option (List ℕ)) → IsAsked words (fmodel elements file root) → (o : Result (List ℕ) ModelRefusal) → IsModelOutcome read elements file root o
-      → IsDue (fmodel_exit o)
+  -- a problem that is barred, where the files are told
+  barred_here : (bars : ReasonRelation) (file : List ℕ) (root : Option (List ℕ)) (r : Reason) → IsRefusal bars read file root (Unanswered r) → (p : Problem) × Loads files file root p × bars p r
+  barred_here bars file root r h =
+      let w = subst (λ (fs : Option (List NamedFile)). (p : Problem) × IsProblemOf fs file root p × bars p r) told h in
+      (w.0, w.1.loads, w.2)
+
+  refusal_due : (file : List ℕ) (root : Option (List ℕ)) (budget : ℕ) → IsAsked words (prove file root budget) → (why : Refusal) → IsRefusal (IsUndecided budget) read file root why
+      → IsDue (exit_for_problem (Err why))
+  refusal_due file root budget asked (Load e) h =
+      load_due file root e (load_here file root e h) (λ refuses. due (prove file root budget) (Err e) exit.Refused asked refuses refl)
+  refusal_due file root budget asked (Unanswered (OutOfBudget all left least)) h =
+      let w = barred_here (IsUndecided budget) file root (OutOfBudget all left least) h in
+      due (prove file root budget) (Ok w.0) exit.ResourceOut asked w.1 (inr (refl, w.2.1.ends.functions))
+  refusal_due file root budget asked (Unanswered TooWide) h = absurd h.2
+  refusal_due file root budget asked (Unanswered (Functions clause)) h = absurd h.2
+  refusal_due file root budget asked Memory h = want_due
+
+  prove_due : (file : List ℕ) (root : Option (List ℕ)) (budget : ℕ) → IsAsked words (prove file root budget) → (o : Result (List ℕ) Refusal) → IsProof read file root budget o
+      → IsDue (exit_for_problem o)
+  prove_due file root budget asked (Ok text) h =
+      let v = subst (λ (fs : Option (List NamedFile)). HasVerdict fs file root text) told h in
+      due (prove file root budget) (Ok v.1.problem) exit.Decided asked v.1.is_problem.loads (inl refl)
+  prove_due file root budget asked (Err why) h = refusal_due file root budget asked why h
+
+  fmodel_due : (elements : ℕ) (file : List ℕ) (root : Option (List ℕ)) → IsAsked words (fmodel elements file root) → (o : Result (List ℕ) Refusal) → IsModelOutcome read elements file root o
+      → IsDue (exit_for_problem o)
   fmodel_due elements file root asked (Ok text) h =
       let a = subst (λ (fs : Option (List NamedFile)). HasModelAnswer fs elements file root text) told h in
       due (fmodel elements file root) (Ok a.0) exit.Decided asked (a.1.loads, a.2.narrow) refl
-  fmodel_due elements file root asked (Err (no_model.Load e)) h =
-      load_due file root e (load_here file root e h) (λ refuses. due (fmodel elements file root) (Err (no_model.Load e)) exit.Refused asked refuses refl)
-  fmodel_due elements file root asked (Err no_model.TooWide) h =
-      let w = subst (λ (fs : Option (List NamedFile)). (p : Problem) × IsProblemOf fs file root p × IsTooWide elements p.clauses) told h in
-      due (fmodel elements file root) (Err no_model.TooWide) exit.Refused asked (w.0, w.1.loads, w.2) refl
-  fmodel_due elements file root asked (Err no_model.Memory) h = want_due
+  fmodel_due elements file root asked (Err (Load e)) h =
+      load_due file root e (load_here file root e h) (λ refuses. due (fmodel elements file root) (Err (Load e)) exit.Refused asked refuses refl)
+  fmodel_due elements file root asked (Err (Unanswered (OutOfBudget all left least))) h = absurd h.2
+  fmodel_due elements file root asked (Err (Unanswered TooWide)) h =
+      due (fmodel elements file root) (Err (Unanswered TooWide)) exit.Refused asked (barred_here (IsUnmodelled elements) file root TooWide h) refl
+  fmodel_due elements file root asked (Err (Unanswered (Functions clause))) h = absurd h.2
+  fmodel_due elements file root asked (Err Memory) h = want_due
 
-  core_due : (file : List ℕ) (root : Option (List ℕ)) → IsAsked words (core file root) → (o : Result (List ℕ) CoreRefusal) → IsCoreOutcome read file root o → IsDue (core_exit o)
+  core_due : (file : List ℕ) (root : Option (List ℕ)) → IsAsked words (core file root) → (o : Result (List ℕ) Refusal) → IsCoreOutcome read file root o → IsDue (exit_for_problem o)
   core_due file root asked (Ok text) h =
       let a = subst (λ (fs : Option (List NamedFile)). HasCoreAnswer fs file root text) told h in
       due (core file root) (Ok a.0) exit.Decided asked (a.1.loads, a.2) refl
-  core_due file root asked (Err (no_core.Load e)) h =
-      load_due file root e (load_here file root e h) (λ refuses. due (core file root) (Err (no_core.Load e)) exit.Refused asked refuses refl)
-  core_due file root asked (Err (no_core.Functions n)) h =
-      let f = subst (λ (fs : Option (List NamedFile)). (p : Problem) × IsProblemOf fs file root p × IsFirstWithFunctions p.clauses n) told h in
-      due (core file root) (Err (no_core.Functions n)) exit.Refused asked (f.0, f.1.loads, f.2) refl
-  core_due file root asked (Err no_core.Memory) h = want_due
+  core_due file root asked (Err (Load e)) h =
+      load_due file root e (load_here file root e h) (λ refuses. due (core file root) (Err (Load e)) exit.Refused asked refuses refl)
+  core_due file root asked (Err (Unanswered (OutOfBudget all left least))) h = absurd h.2
+  core_due file root asked (Err (Unanswered TooWide)) h = absurd h.2
+  core_due file root asked (Err (Unanswered (Functions clause))) h =
+      due (core file root) (Err (Unanswered (Functions clause))) exit.Refused asked (barred_here IsUncored file root (Functions clause) h) refl
+  core_due file root asked (Err Memory) h = want_due
 
   -- why a text is refused, where that makes the exit due
   lines_due : (refuses : TextRelation DimacsError) (file : List ℕ) → ((e : SatError) → IsBarred refuses files file e → IsDue exit.Refused)

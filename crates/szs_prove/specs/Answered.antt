@@ -1,6 +1,5 @@
 -- What the program answers, command by command: what is told, for which cause, how the program ends, and when it ends so.
-use Rattle.std.specs.Prelude.{Bool, Err, IsFalse, IsTrue, List, None, Ok, Option, Result, Some, [], codes, decimal, length, ℕ, ⊤, ◌<◌, ◌∷◌, ◌≡◌, ◌⊎◌}
-use Rattle.std.specs.List.{concat}
+use Rattle.std.specs.Prelude.{Bool, Err, IsFalse, IsTrue, List, None, Ok, Option, Result, Some, [], codes, length, ℕ, ⊤, ◌<◌, ◌≡◌, ◌⊎◌}
 use Rattle.std.specs.Io.KnownBytes.{Appends}
 use Rattle.inst_logic.specs.declared.memory.Memory.{Memory as OutOfMemory}
 use Rattle.outside_io.specs.Notices.{notice_text}
@@ -20,11 +19,9 @@ use Rattle.dimacs_front.specs.declared.file.SatError.{SatError}
 use Rattle.szs_prove.specs.SizeWords.{size_lines}
 use Rattle.szs_prove.specs.declared.answer.Answer.{Answer}
 use Rattle.szs_prove.specs.declared.answer.Answer.TheVariants.{Ask, Check, Core, Fmodel, NoWords, Prove, Qbf, Rewrite, Sat, Stress, Unread}
-use Rattle.szs_prove.specs.declared.cores.CoreRefusal.{CoreRefusal}
 use Rattle.szs_prove.specs.declared.exit.Exit.{Exit}
 use Rattle.szs_prove.specs.declared.formula.FormulaAnswer.{FormulaAnswer}
 use Rattle.szs_prove.specs.declared.formula.FormulaAnswer.TheVariants.{False, True}
-use Rattle.szs_prove.specs.declared.model.ModelRefusal.{ModelRefusal}
 use Rattle.szs_prove.specs.declared.refusal.Refusal.{Refusal}
 use Rattle.szs_prove.specs.declared.sizes.Size.{Size}
 use Rattle.inst_logic.specs.Tree.{Tree}
@@ -35,10 +32,10 @@ use Rattle.cert_front.specs.Rewritings.{IsRewritten}
 use Rattle.command_words.specs.declared.request.Request.{Request}
 use Rattle.command_words.specs.Asked.{Asked, IsAsked, IsUnread, ask, asked as question_of, check, core, fmodel, name_of, prove, qbf, rewrite, sat, stress}
 use Rattle.dimacs_front.specs.Files.{IsHeld, IsOutcome, limit}
-use Rattle.szs_prove.specs.Answers.{IsOutOfBudget, IsProof, IsUntouched, IsVerdict, Reading}
-use Rattle.szs_prove.specs.CoreAnswers.{HasCoreAnswer, IsCoreRefusal}
+use Rattle.szs_prove.specs.Answers.{IsAnswered, IsOutOfBudget, IsProof, IsUntouched, IsVerdict, Reading, ReasonRelation}
+use Rattle.szs_prove.specs.CoreAnswers.{HasCoreAnswer, IsUncored}
 use Rattle.szs_prove.specs.Formulas.{IsFalseFormula, IsFormulaAnswer, IsFormulaOutcome, IsTrueFormula}
-use Rattle.szs_prove.specs.ModelAnswers.{HasModelAnswer, IsModelRefusal}
+use Rattle.szs_prove.specs.ModelAnswers.{HasModelAnswer, IsUnmodelled}
 use Rattle.szs_prove.specs.Sizes.{IsRefutedIn}
 use Rattle.outside_io.specs.Seen.{Seen}
 use Rattle.outside_io.specs.Taken.{AppendsProperPrefix}
@@ -61,7 +58,6 @@ use Rattle.tptp_load.specs.Problems.{Loads, Refuses}
 use Rattle.dimacs_front.specs.Answers.{IsAnswerFor, IsModel}
 use Rattle.dimacs_front.specs.declared.cnf.Cnf.{Cnf}
 use Rattle.dimacs_front.specs.declared.error.DimacsError.{DimacsError}
-use Rattle.szs_prove.specs.Applications.{IsFirstWithFunctions}
 use Rattle.szs_prove.specs.Texts.{exit_of, load_reason, load_status, refusal_text, status_of, want_text}
 use Rattle.cert_front.specs.declared.check.CheckFault.TheVariants as unjudged
 use Rattle.cert_front.specs.declared.judgement.Judgement.TheVariants as judgement
@@ -71,44 +67,20 @@ use Rattle.dimacs_front.specs.declared.answers.SatAnswer.TheVariants as solved
 use Rattle.dimacs_front.specs.declared.error.DimacsError.TheVariants as fault
 use Rattle.dimacs_front.specs.declared.file.SatError.TheVariants as bar
 use Rattle.outside_io.specs.declared.notices.Status.TheVariants as status
-use Rattle.szs_prove.specs.declared.cores.CoreRefusal.TheVariants as no_core
 use Rattle.szs_prove.specs.declared.exit.Exit.TheVariants as end
-use Rattle.szs_prove.specs.declared.model.ModelRefusal.TheVariants as no_model
+use Rattle.szs_prove.specs.declared.refusal.Reason.TheVariants as no
 use Rattle.szs_prove.specs.declared.refusal.Refusal.TheVariants as why
-
--- ---- why there are neither tables nor a refutation
-
-abbrev pub model_status : ModelRefusal → Status
-model_status (no_model.Load e) = load_status e
-model_status no_model.TooWide = status.InputError
-model_status no_model.Memory = status.MemoryOut
-
-abbrev pub model_reason : ModelRefusal → List ℕ
-model_reason (no_model.Load e) = load_reason e
-model_reason no_model.TooWide = codes "% limit tables\n"
-model_reason no_model.Memory = []
-
--- ---- why no core is searched for
-
-abbrev pub core_status : CoreRefusal → Status
-core_status (no_core.Load e) = load_status e
-core_status (no_core.Functions clause) = status.Inappropriate
-core_status no_core.Memory = status.MemoryOut
-
-abbrev pub core_reason : CoreRefusal → List ℕ
-core_reason (no_core.Load e) = load_reason e
-core_reason (no_core.Functions clause) = concat (codes "% functions: clause " ∷ decimal clause ∷ codes "\n" ∷ [])
-core_reason no_core.Memory = []
 
 -- ---- what is told of each answer, and how the program ends with it
 
-abbrev pub prove_text : List ℕ → Result (List ℕ) Refusal → List ℕ
-prove_text name (Ok text) = text
-prove_text name (Err refusal) = refusal_text name refusal
+-- of the commands that answer for the problem of a file
+abbrev pub text_for_problem : List ℕ → Result (List ℕ) Refusal → List ℕ
+text_for_problem name (Ok text) = text
+text_for_problem name (Err refusal) = refusal_text name refusal
 
-abbrev pub prove_exit : Result (List ℕ) Refusal → Exit
-prove_exit (Ok text) = end.Decided
-prove_exit (Err refusal) = exit_of (status_of refusal)
+abbrev pub exit_for_problem : Result (List ℕ) Refusal → Exit
+exit_for_problem (Ok text) = end.Decided
+exit_for_problem (Err refusal) = exit_of (status_of refusal)
 
 -- truth values, or a derivation that there are none
 abbrev pub solved_text : SatAnswer → List ℕ
@@ -200,45 +172,29 @@ abbrev pub qbf_exit : Result FormulaAnswer SatError → Exit
 qbf_exit (Ok found) = value_exit found
 qbf_exit (Err error) = exit_of (refusal_status error)
 
-abbrev pub fmodel_text : List ℕ → Result (List ℕ) ModelRefusal → List ℕ
-fmodel_text name (Ok text) = text
-fmodel_text name (Err why) = notice_text (model_status why) name (model_reason why)
-
-abbrev pub fmodel_exit : Result (List ℕ) ModelRefusal → Exit
-fmodel_exit (Ok text) = end.Decided
-fmodel_exit (Err why) = exit_of (model_status why)
-
-abbrev pub core_text : List ℕ → Result (List ℕ) CoreRefusal → List ℕ
-core_text name (Ok text) = text
-core_text name (Err why) = notice_text (core_status why) name (core_reason why)
-
-abbrev pub core_exit : Result (List ℕ) CoreRefusal → Exit
-core_exit (Ok text) = end.Decided
-core_exit (Err why) = exit_of (core_status why)
-
 abbrev pub text_for : List ℕ → Answer → List ℕ
-text_for name (Prove outcome) = prove_text name outcome
+text_for name (Prove outcome) = text_for_problem name outcome
 text_for name (Sat outcome) = sat_text name outcome
 text_for name (Check outcome) = check_text name outcome
 text_for name (Rewrite outcome) = rewriting_text name outcome
 text_for name (Ask outcome) = ask_text name outcome
 text_for name (Stress outcome) = stress_text name outcome
 text_for name (Qbf outcome) = qbf_text name outcome
-text_for name (Fmodel outcome) = fmodel_text name outcome
-text_for name (Core outcome) = core_text name outcome
+text_for name (Fmodel outcome) = text_for_problem name outcome
+text_for name (Core outcome) = text_for_problem name outcome
 text_for name Unread = notice_text status.UsageError name (codes "% usage\n")
 text_for name NoWords = want_text name
 
 abbrev pub exit_for : Answer → Exit
-exit_for (Prove outcome) = prove_exit outcome
+exit_for (Prove outcome) = exit_for_problem outcome
 exit_for (Sat outcome) = sat_exit outcome
 exit_for (Check outcome) = check_exit outcome
 exit_for (Rewrite outcome) = rewriting_exit outcome
 exit_for (Ask outcome) = ask_exit outcome
 exit_for (Stress outcome) = stress_exit outcome
 exit_for (Qbf outcome) = qbf_exit outcome
-exit_for (Fmodel outcome) = fmodel_exit outcome
-exit_for (Core outcome) = core_exit outcome
+exit_for (Fmodel outcome) = exit_for_problem outcome
+exit_for (Core outcome) = exit_for_problem outcome
 exit_for Unread = end.Usage
 exit_for NoWords = end.Memory
 
@@ -265,14 +221,12 @@ IsMeasured number (Ok size) = IsRefutedIn number size
 IsMeasured number (Err want) = ⊤
 
 -- tables over so many elements for the problem of the file, or that there are none, or why there is no answer
-abbrev pub IsModelOutcome : Reading → ℕ → List ℕ → Option (List ℕ) → Result (List ℕ) ModelRefusal → Type 0
-IsModelOutcome read elements file root (Ok text) = HasModelAnswer read.old.files elements file root text
-IsModelOutcome read elements file root (Err why) = IsModelRefusal read elements file root why
+abbrev pub IsModelOutcome : Reading → ℕ → List ℕ → Option (List ℕ) → Result (List ℕ) Refusal → Type 0
+IsModelOutcome read elements file root = IsAnswered (HasModelAnswer read.old.files elements file root) (IsUnmodelled elements) read file root
 
 -- a core of the problem of the file, or that there is none, or why there is no answer
-abbrev pub IsCoreOutcome : Reading → List ℕ → Option (List ℕ) → Result (List ℕ) CoreRefusal → Type 0
-IsCoreOutcome read file root (Ok text) = HasCoreAnswer read.old.files file root text
-IsCoreOutcome read file root (Err why) = IsCoreRefusal read file root why
+abbrev pub IsCoreOutcome : Reading → List ℕ → Option (List ℕ) → Result (List ℕ) Refusal → Type 0
+IsCoreOutcome read file root = IsAnswered (HasCoreAnswer read.old.files file root) IsUncored read file root
 
 -- ---- the causes of all answers
 
@@ -366,7 +320,7 @@ pub record WritesNumbers (words : List (List ℕ)) (files : Option (List NamedFi
   pub wanted : ℕ
   pub asked : IsAsked words (prove file root budget)
   pub stopped : IsOutOfBudget files file root budget left wanted
-  pub written : Appends old new (refusal_text file (why.OutOfBudget budget left wanted))
+  pub written : Appends old new (refusal_text file (why.Unanswered (no.OutOfBudget budget left wanted)))
 
 -- a question about a certificate, and the problem of another file
 abbrev pub OfCertificate : Type 0
@@ -516,22 +470,23 @@ abbrev pub WantsOfProblem : Result Problem LoadError → Exit → Type 0
 WantsOfProblem (Ok p) exit = (exit ≡ end.Decided) ⊎ ((exit ≡ end.ResourceOut) × IsFalse (is_function_free p.clauses))
 WantsOfProblem (Err e) exit = exit ≡ end.Refused
 
--- the problem of the file, whose tables over so many elements are not too large, or why there is none
-abbrev pub IsTabled : List NamedFile → ℕ → List ℕ → Option (List ℕ) → Result Problem ModelRefusal → Type 0
-IsTabled files elements file root (Ok p) = Loads files file root p × ¬ IsTooWide elements p.clauses
-IsTabled files elements file root (Err (no_model.Load e)) = Refuses files file root e
-IsTabled files elements file root (Err no_model.TooWide) = (p : Problem) × Loads files file root p × IsTooWide elements p.clauses
-IsTabled files elements file root (Err no_model.Memory) = ⊥
+-- the problem of the file, where it fits, or why there is none
+abbrev pub IsFitting : (Problem → Type 0) → ReasonRelation → List NamedFile → List ℕ → Option (List ℕ) → Result Problem Refusal → Type 0
+IsFitting fits bars files file root (Ok p) = Loads files file root p × fits p
+IsFitting fits bars files file root (Err (why.Load e)) = Refuses files file root e
+IsFitting fits bars files file root (Err (why.Unanswered reason)) = (p : Problem) × Loads files file root p × bars p reason
+IsFitting fits bars files file root (Err why.Memory) = ⊥
 
--- the problem of the file, without function symbols that have arguments, or why there is none
-abbrev pub IsFlat : List NamedFile → List ℕ → Option (List ℕ) → Result Problem CoreRefusal → Type 0
-IsFlat files file root (Ok p) = Loads files file root p × IsTrue (is_function_free p.clauses)
-IsFlat files file root (Err (no_core.Load e)) = Refuses files file root e
-IsFlat files file root (Err (no_core.Functions clause)) = (p : Problem) × Loads files file root p × IsFirstWithFunctions p.clauses clause
-IsFlat files file root (Err no_core.Memory) = ⊥
+-- its tables over so many elements are not too large
+abbrev pub IsTabled : List NamedFile → ℕ → List ℕ → Option (List ℕ) → Result Problem Refusal → Type 0
+IsTabled files elements file root = IsFitting (λ p. ¬ IsTooWide elements p.clauses) (IsUnmodelled elements) files file root
+
+-- it has no function symbols with arguments
+abbrev pub IsFlat : List NamedFile → List ℕ → Option (List ℕ) → Result Problem Refusal → Type 0
+IsFlat files file root = IsFitting (λ p. IsTrue (is_function_free p.clauses)) IsUncored files file root
 
 -- such a problem is always decided
-abbrev pub WantsDecision : {E : Type 0} → Result Problem E → Exit → Type 0
+abbrev pub WantsDecision : Result Problem Refusal → Exit → Type 0
 WantsDecision (Ok p) exit = exit ≡ end.Decided
 WantsDecision (Err e) exit = exit ≡ end.Refused
 
@@ -592,8 +547,8 @@ Finding (rewrite cert problem root) = Result (Form × Judgement) CheckFault
 Finding (ask cert atom) = Result Reply CertFault
 Finding (stress number) = ⊤
 Finding (qbf file) = Result Quantified SatError
-Finding (fmodel elements file root) = Result Problem ModelRefusal
-Finding (core file root) = Result Problem CoreRefusal
+Finding (fmodel elements file root) = Result Problem Refusal
+Finding (core file root) = Result Problem Refusal
 
 -- it finds this in the files
 abbrev pub Finds : List NamedFile → (question : Asked) → Finding question → Type 0

@@ -11,8 +11,10 @@ use Rattle.cert_format.specs.Formats.{written_format}
 use Rattle.cert_format.specs.Printable.{IsTextName}
 use Rattle.cert_format.specs.Text.{written_text}
 use Rattle.szs_prove.specs.Decisions.{IsReplayed, IsStopped}
+use Rattle.szs_prove.specs.declared.refusal.Reason.{Reason}
+use Rattle.szs_prove.specs.declared.refusal.Reason.TheVariants.{OutOfBudget, TooWide, Functions}
 use Rattle.szs_prove.specs.declared.refusal.Refusal.{Refusal}
-use Rattle.szs_prove.specs.declared.refusal.Refusal.TheVariants.{Load, OutOfBudget, Memory as Wanting}
+use Rattle.szs_prove.specs.declared.refusal.Refusal.TheVariants.{Load, Unanswered, Memory as Wanting}
 
 -- what the library tells before the call and after it
 pub record Reading : Type 0 where
@@ -26,12 +28,41 @@ reading old new = record { old = old; new = new }
 abbrev pub IsUntouched : Reading → Type 0
 IsUntouched read = read.new ≡ read.old
 
--- ---- prove
+-- ---- the problem of a file
 
 -- a good problem, and that of the file where the files are told
 pub record IsProblemOf (files : Option (List NamedFile)) (file : List ℕ) (root : Option (List ℕ)) (p : Problem) : Type 0 where
   pub good : IsGoodProblem p
   pub loads : load.Told files (λ told. Loads told file root p)
+
+-- why a problem that was loaded may have no answer
+abbrev pub ReasonRelation : Type 1
+ReasonRelation = Problem → Reason → Type 0
+
+-- it has none for one of these reasons, or memory ran out
+abbrev pub IsUnanswered : ReasonRelation → Problem → Refusal → Type 0
+IsUnanswered bars p (Load e) = ⊥
+IsUnanswered bars p (Unanswered reason) = bars p reason
+IsUnanswered bars p Wanting = ⊤
+
+-- the file gives no problem, or memory ran out
+abbrev pub IsUnloaded : Reading → List ℕ → Option (List ℕ) → Refusal → Type 0
+IsUnloaded read file root (Load e) = IsLoadCause read.old.files read.old.faults read.new.faults file root e
+IsUnloaded read file root (Unanswered reason) = ⊥
+IsUnloaded read file root Wanting = ⊤
+
+-- the file gives no problem, or its problem has no answer for one of these reasons, or memory ran out
+abbrev pub IsRefusal : ReasonRelation → Reading → List ℕ → Option (List ℕ) → Refusal → Type 0
+IsRefusal bars read file root (Load e) = IsLoadCause read.old.files read.old.faults read.new.faults file root e
+IsRefusal bars read file root (Unanswered reason) = (p : Problem) × IsProblemOf read.old.files file root p × bars p reason
+IsRefusal bars read file root Wanting = ⊤
+
+-- the text is such an answer for the problem of the file, or it is why there is none
+abbrev pub IsAnswered : (List ℕ → Type 0) → ReasonRelation → Reading → List ℕ → Option (List ℕ) → Result (List ℕ) Refusal → Type 0
+IsAnswered answers bars read file root (Ok text) = answers text
+IsAnswered answers bars read file root (Err why) = IsRefusal bars read file root why
+
+-- ---- prove
 
 -- The certificate is one of the problem of the file, which shows what its status says, and its members are the entries of a run
 -- on that problem.
@@ -52,13 +83,12 @@ pub record IsOutOfBudget (files : Option (List NamedFile)) (file : List ℕ) (ro
   pub is_problem : IsProblemOf files file root problem
   pub stopped : IsStopped problem budget left wanted
 
--- why there is no verdict on the problem of the file
-abbrev pub IsRefusal : Reading → List ℕ → Option (List ℕ) → ℕ → Refusal → Type 0
-IsRefusal read file root budget (Load e) = IsLoadCause read.old.files read.old.faults read.new.faults file root e
-IsRefusal read file root budget (OutOfBudget all left wanted) = (all ≡ budget) × IsOutOfBudget read.old.files file root budget left wanted
-IsRefusal read file root budget Wanting = ⊤
+-- a run on the problem with this budget ends for want of it
+abbrev pub IsUndecided : ℕ → ReasonRelation
+IsUndecided budget p (OutOfBudget all left wanted) = (all ≡ budget) × IsStopped p budget left wanted
+IsUndecided budget p TooWide = ⊥
+IsUndecided budget p (Functions clause) = ⊥
 
 -- the text of a verdict on the problem of the file, or why there is none
 abbrev pub IsProof : Reading → List ℕ → Option (List ℕ) → ℕ → Result (List ℕ) Refusal → Type 0
-IsProof read file root budget (Ok text) = HasVerdict read.old.files file root text
-IsProof read file root budget (Err why) = IsRefusal read file root budget why
+IsProof read file root budget = IsAnswered (HasVerdict read.old.files file root) (IsUndecided budget) read file root

@@ -1,18 +1,16 @@
 -- The model of the problem of a file with so many elements, or that there is none.
-use Rattle.std.specs.Prelude.{◌≡◌, ◌⊎◌, ◌++◌, ℕ, List, Option, ⊤}
+use Rattle.std.specs.Prelude.{◌≡◌, ◌⊎◌, ◌++◌, ℕ, List, Option}
 use Rattle.inst_logic.specs.declared.clause.Problem.{Problem}
 use Rattle.outside_io.specs.declared.library.NamedFile.{NamedFile}
-use Rattle.tptp_load.specs.Problems.{IsLoadCause}
 use Rattle.cert_format.specs.Certificate.{Refutation, refutation}
 use Rattle.cert_format.specs.Text.{written_text}
 use Rattle.finite_model.specs.declared.tables.Tables.{Tables}
 use Rattle.finite_model.specs.Tables.{IsModel, IsTooWide}
 use Rattle.finite_model.specs.Flattening.{flattened, flattened_names}
-use Rattle.szs_prove.specs.Answers.{IsProblemOf, Reading}
+use Rattle.szs_prove.specs.Answers.{IsProblemOf, ReasonRelation}
 use Rattle.szs_prove.specs.Decisions.{IsShownBy}
 use Rattle.szs_prove.specs.TableTexts.{no_tables_line, tables_text}
-use Rattle.szs_prove.specs.declared.model.ModelRefusal.{ModelRefusal}
-use Rattle.szs_prove.specs.declared.model.ModelRefusal.TheVariants.{Load, TooWide, Memory}
+use Rattle.szs_prove.specs.declared.refusal.Reason.TheVariants.{OutOfBudget, TooWide, Functions}
 
 -- the flattened form of the problem for so many elements
 abbrev pub flattened_problem : ℕ → Problem → Problem
@@ -41,14 +39,8 @@ pub record IsModelText (k : ℕ) (file : List ℕ) (p : Problem) (text : List �
 abbrev pub HasModelAnswer : Option (List NamedFile) → ℕ → List ℕ → Option (List ℕ) → List ℕ → Type 0
 HasModelAnswer files k file root text = (p : Problem) × IsProblemOf files file root p × IsModelText k file p text
 
--- why there is no text of the problem that was loaded
-abbrev pub IsUnmodelled : ℕ → Problem → ModelRefusal → Type 0
-IsUnmodelled k p (Load e) = ⊥
+-- the tables over so many elements would have more than a million cells
+abbrev pub IsUnmodelled : ℕ → ReasonRelation
+IsUnmodelled k p (OutOfBudget all left wanted) = ⊥
 IsUnmodelled k p TooWide = IsTooWide k p.clauses
-IsUnmodelled k p Memory = ⊤
-
--- why there is neither tables nor a refutation
-abbrev pub IsModelRefusal : Reading → ℕ → List ℕ → Option (List ℕ) → ModelRefusal → Type 0
-IsModelRefusal read k file root (Load e) = IsLoadCause read.old.files read.old.faults read.new.faults file root e
-IsModelRefusal read k file root TooWide = (p : Problem) × IsProblemOf read.old.files file root p × IsTooWide k p.clauses
-IsModelRefusal read k file root Memory = ⊤
+IsUnmodelled k p (Functions clause) = ⊥

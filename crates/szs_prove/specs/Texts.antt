@@ -12,6 +12,8 @@ use Rattle.tptp_load.specs.declared.error.LoadError.{LoadError}
 use Rattle.tptp_load.specs.declared.error.LoadError.TheVariants as load
 use Rattle.szs_prove.specs.declared.exit.Exit.{Exit}
 use Rattle.szs_prove.specs.declared.exit.Exit.TheVariants as exit
+use Rattle.szs_prove.specs.declared.refusal.Reason.{Reason}
+use Rattle.szs_prove.specs.declared.refusal.Reason.TheVariants as reason
 use Rattle.szs_prove.specs.declared.refusal.Refusal.{Refusal}
 use Rattle.szs_prove.specs.declared.refusal.Refusal.TheVariants as why
 
@@ -87,20 +89,36 @@ load_reason load.TooLong = codes "% limit bytes\n"
 load_reason load.ReadFault = codes "% read fault\n"
 load_reason load.Memory = []
 
--- ---- why there is no verdict
+-- ---- why a problem has no answer
 
-abbrev pub status_of : Refusal → Status
-status_of (why.Load e) = load_status e
-status_of (why.OutOfBudget budget left wanted) = status.ResourceOut
-status_of why.Memory = status.MemoryOut
+abbrev pub reason_status : Reason → Status
+reason_status (reason.OutOfBudget budget left wanted) = status.ResourceOut
+reason_status reason.TooWide = status.InputError
+reason_status (reason.Functions clause) = status.Inappropriate
 
 -- the budget, what a run left of it, and the size of the least conclusion that did not fit
 abbrev pub budget_line : ℕ → ℕ → ℕ → List ℕ
 budget_line budget left wanted = concat (codes "% budget " ∷ decimal budget ∷ codes ", left " ∷ decimal left ∷ codes ", least conclusion " ∷ decimal wanted ∷ codes "\n" ∷ [])
 
+-- the number of the first clause that has functions
+abbrev pub functions_line : ℕ → List ℕ
+functions_line clause = concat (codes "% functions: clause " ∷ decimal clause ∷ codes "\n" ∷ [])
+
+abbrev pub reason_line : Reason → List ℕ
+reason_line (reason.OutOfBudget budget left wanted) = budget_line budget left wanted
+reason_line reason.TooWide = codes "% limit tables\n"
+reason_line (reason.Functions clause) = functions_line clause
+
+-- ---- why there is no answer for the problem of a file
+
+abbrev pub status_of : Refusal → Status
+status_of (why.Load e) = load_status e
+status_of (why.Unanswered no) = reason_status no
+status_of why.Memory = status.MemoryOut
+
 abbrev pub reason_of : Refusal → List ℕ
 reason_of (why.Load e) = load_reason e
-reason_of (why.OutOfBudget budget left wanted) = budget_line budget left wanted
+reason_of (why.Unanswered no) = reason_line no
 reason_of why.Memory = []
 
 abbrev pub refusal_text : List ℕ → Refusal → List ℕ

@@ -1,18 +1,15 @@
 // What comes of what the words ask, what is told of it or why there is nothing, and how the program ends with it, command by command.
 // Only here an answer meets the sink. A text is whole before its first byte is written, or is told in pieces that take no memory.
-ghost use Rattle.std.specs.Prelude.{◌≡◌, ◌∷◌, [], codes, decimal};
-ghost use Rattle.std.specs.List.{concat};
+ghost use Rattle.std.specs.Prelude.{◌≡◌, codes};
 ghost use Rattle.outside_io.specs.Notices.{notice_text};
 ghost use Rattle.outside_io.specs.Pieces.{text_of};
 ghost use Rattle.outside_io.specs.declared.notices.Status.TheVariants as status;
-ghost use Rattle.szs_prove.specs.Answered.{ask_exit, ask_text, check_exit, check_text, core_exit, core_reason, core_status, core_text, exit_for, fmodel_exit, fmodel_text, judgement_exit, model_reason, model_status, prove_exit, prove_text, qbf_exit, qbf_text, reply_exit, rewriting_exit, rewriting_text, sat_exit, sat_text, stress_exit, stress_text, text_for, unjudged_reason, unjudged_status, value_exit, value_text};
+ghost use Rattle.szs_prove.specs.Answered.{ask_exit, ask_text, check_exit, check_text, exit_for, exit_for_problem, judgement_exit, qbf_exit, qbf_text, reply_exit, rewriting_exit, rewriting_text, sat_exit, sat_text, stress_exit, stress_text, text_for, text_for_problem, unjudged_reason, unjudged_status, value_exit, value_text};
 ghost use Rattle.szs_prove.specs.Texts.{want_text};
 ghost use Rattle.szs_prove.specs.Written.{IsWritten, exit_after};
 
-use crate::cores::CoreRefusal;
 use crate::exit::{Exit, exit_of};
 use crate::formula::FormulaAnswer;
-use crate::model::ModelRefusal;
 use crate::refusal::{Refusal, load_reason, load_status};
 use crate::sizes::{Size, size_lines};
 use cert_front::{
@@ -21,8 +18,7 @@ use cert_front::{
 use dimacs_front::{SatAnswer, SatError};
 use inst_logic::{ByteList, Memory};
 use outside_io::{
-    Line, Piece, Pieces, Sink, Status, Trouble, notice, one_line, text_line, whole_text,
-    write_pieces,
+    Line, Pieces, Sink, Status, Trouble, notice, one_line, text_line, whole_text, write_pieces,
 };
 
 /// What comes of what the words ask. Each but the last two and `Rewrite` is that of the command of its name.
@@ -38,9 +34,9 @@ pub enum Answer {
     Stress(Result<Size, Memory>),
     Qbf(Result<FormulaAnswer, SatError>),
     /// The text of tables, or of that there are none.
-    Fmodel(Result<ByteList, ModelRefusal>),
+    Fmodel(Result<ByteList, Refusal>),
     /// The text of a core, or of that there is none.
-    Core(Result<ByteList, CoreRefusal>),
+    Core(Result<ByteList, Refusal>),
     /// The words ask nothing.
     Unread,
     /// Memory was wanted before the words were read.
@@ -53,15 +49,15 @@ impl Answer {
         ensures { text_of result ≡ text_for name.now self.now }
     {
         match self {
-            Answer::Prove(outcome) => prove_pieces(name, outcome),
+            Answer::Prove(outcome) => problem_pieces(name, outcome),
             Answer::Sat(outcome) => sat_pieces(name, outcome),
             Answer::Check(outcome) => check_pieces(name, outcome),
             Answer::Rewrite(outcome) => rewriting_pieces(name, outcome),
             Answer::Ask(outcome) => ask_pieces(name, outcome),
             Answer::Stress(outcome) => stress_pieces(name, outcome),
             Answer::Qbf(outcome) => qbf_pieces(name, outcome),
-            Answer::Fmodel(outcome) => fmodel_pieces(name, outcome),
-            Answer::Core(outcome) => core_pieces(name, outcome),
+            Answer::Fmodel(outcome) => problem_pieces(name, outcome),
+            Answer::Core(outcome) => problem_pieces(name, outcome),
             Answer::Unread => usage(name),
             Answer::NoWords => want(name),
         }
@@ -72,15 +68,15 @@ impl Answer {
         ensures { result ≡ exit_for self.now }
     {
         match self {
-            Answer::Prove(outcome) => prove_exit(outcome),
+            Answer::Prove(outcome) => problem_exit(outcome),
             Answer::Sat(outcome) => sat_exit(outcome),
             Answer::Check(outcome) => check_exit(outcome),
             Answer::Rewrite(outcome) => rewriting_exit(outcome),
             Answer::Ask(outcome) => ask_exit(outcome),
             Answer::Stress(outcome) => stress_exit(outcome),
             Answer::Qbf(outcome) => qbf_exit(outcome),
-            Answer::Fmodel(outcome) => fmodel_exit(outcome),
-            Answer::Core(outcome) => core_exit(outcome),
+            Answer::Fmodel(outcome) => problem_exit(outcome),
+            Answer::Core(outcome) => problem_exit(outcome),
             Answer::Unread => Exit::Usage,
             Answer::NoWords => Exit::Memory,
         }
@@ -123,10 +119,10 @@ fn usage(name: &[u8]) -> Pieces<'_>
     notice(Status::UsageError, name, text_line(b"% usage\n"))
 }
 
-// ---- prove
+// ---- prove, fmodel, core
 
-fn prove_pieces<'a>(name: &'a [u8], outcome: &'a Result<ByteList, Refusal>) -> Pieces<'a>
-    ensures { text_of result ≡ prove_text name.now outcome.now }
+fn problem_pieces<'a>(name: &'a [u8], outcome: &'a Result<ByteList, Refusal>) -> Pieces<'a>
+    ensures { text_of result ≡ text_for_problem name.now outcome.now }
 {
     match outcome {
         Ok(text) => whole_text(text.as_slice()),
@@ -134,8 +130,8 @@ fn prove_pieces<'a>(name: &'a [u8], outcome: &'a Result<ByteList, Refusal>) -> P
     }
 }
 
-fn prove_exit(outcome: &Result<ByteList, Refusal>) -> Exit
-    ensures { result ≡ prove_exit outcome.now }
+fn problem_exit(outcome: &Result<ByteList, Refusal>) -> Exit
+    ensures { result ≡ exit_for_problem outcome.now }
 {
     match outcome {
         Ok(_) => Exit::Decided,
@@ -322,101 +318,5 @@ fn qbf_exit(outcome: &Result<FormulaAnswer, SatError>) -> Exit
     match outcome {
         Ok(found) => value_exit(found),
         Err(error) => exit_of(error.status()),
-    }
-}
-
-// ---- fmodel
-
-fn model_status(why: &ModelRefusal) -> Status
-    ensures { result ≡ model_status why.now }
-{
-    match why {
-        ModelRefusal::Load(error) => load_status(error),
-        ModelRefusal::TooWide => Status::InputError,
-        ModelRefusal::Memory => Status::MemoryOut,
-    }
-}
-
-fn model_reason(why: &ModelRefusal) -> Line<'_>
-    ensures { text_of result ≡ model_reason why.now }
-{
-    match why {
-        ModelRefusal::Load(error) => load_reason(error),
-        ModelRefusal::TooWide => text_line(b"% limit tables\n"),
-        ModelRefusal::Memory => text_line(b""),
-    }
-}
-
-fn fmodel_pieces<'a>(name: &'a [u8], outcome: &'a Result<ByteList, ModelRefusal>) -> Pieces<'a>
-    ensures { text_of result ≡ fmodel_text name.now outcome.now }
-{
-    match outcome {
-        Ok(text) => whole_text(text.as_slice()),
-        Err(why) => notice(model_status(why), name, model_reason(why)),
-    }
-}
-
-fn fmodel_exit(outcome: &Result<ByteList, ModelRefusal>) -> Exit
-    ensures { result ≡ fmodel_exit outcome.now }
-{
-    match outcome {
-        Ok(_) => Exit::Decided,
-        Err(why) => exit_of(model_status(why)),
-    }
-}
-
-// ---- core
-
-fn core_status(why: &CoreRefusal) -> Status
-    ensures { result ≡ core_status why.now }
-{
-    match why {
-        CoreRefusal::Load(error) => load_status(error),
-        CoreRefusal::Functions { .. } => Status::Inappropriate,
-        CoreRefusal::Memory => Status::MemoryOut,
-    }
-}
-
-// The number of the first clause that has functions.
-fn functions_line<'a>(clause: usize) -> Line<'a>
-    ensures { text_of result ≡ concat (codes "% functions: clause " ∷ decimal clause ∷ codes "\n" ∷ []) }
-{
-    let none = Piece::Text(b"");
-    [
-        Piece::Text(b"% functions: clause "),
-        Piece::Number(clause as u64),
-        Piece::Text(b"\n"),
-        none,
-        none,
-        none,
-        none,
-    ]
-}
-
-fn core_reason(why: &CoreRefusal) -> Line<'_>
-    ensures { text_of result ≡ core_reason why.now }
-{
-    match why {
-        CoreRefusal::Load(error) => load_reason(error),
-        CoreRefusal::Functions { clause } => functions_line(*clause),
-        CoreRefusal::Memory => text_line(b""),
-    }
-}
-
-fn core_pieces<'a>(name: &'a [u8], outcome: &'a Result<ByteList, CoreRefusal>) -> Pieces<'a>
-    ensures { text_of result ≡ core_text name.now outcome.now }
-{
-    match outcome {
-        Ok(text) => whole_text(text.as_slice()),
-        Err(why) => notice(core_status(why), name, core_reason(why)),
-    }
-}
-
-fn core_exit(outcome: &Result<ByteList, CoreRefusal>) -> Exit
-    ensures { result ≡ core_exit outcome.now }
-{
-    match outcome {
-        Ok(_) => Exit::Decided,
-        Err(why) => exit_of(core_status(why)),
     }
 }

@@ -1,62 +1,25 @@
 // A core of the problem of a file: it is loaded, and the text is made whole before anything is written.
-ghost use Rattle.std.specs.Prelude.{◌≡◌, ◌⊎◌, IsTrue, IfOk, IfErr, MatchOption};
+ghost use Rattle.std.specs.Prelude.{◌⊎◌, IsTrue, IfOk, IfErr, MatchOption};
 ghost use Rattle.inst_logic.specs.Measure.{is_function_free};
 ghost use Rattle.cert_format.specs.Printable.{IsTextName};
 ghost use Rattle.outside_io.specs.Told.{Follows};
 ghost use Rattle.tptp_load.specs.Problems.{IsGoodProblem};
 ghost use Rattle.tptp_load.specs.Includes.{path_of};
 ghost use Rattle.core_min.specs.Cores.{HasSelection, IsCore};
-ghost use Rattle.szs_prove.specs.Answers.{IsProblemOf, reading};
-ghost use Rattle.szs_prove.specs.CoreAnswers.{HasCoreAnswer, IsCoreRefusal, IsUncored};
+ghost use Rattle.szs_prove.specs.Answers.{IsRefusal, IsUnanswered, reading};
+ghost use Rattle.szs_prove.specs.CoreAnswers.{HasCoreAnswer, IsUncored};
 ghost use Rattle.szs_prove.specs.CoreTexts.{IsCoreText, IsNoCoreText};
 ghost use Rattle.szs_prove.specs.SubProblems.{IsDecidable};
-ghost use Rattle.szs_prove.specs.declared.cores.CoreRefusal.TheVariants as why;
 
 use crate::application::first_with_functions;
 use crate::core_text::{text_of_core, text_of_no_core};
 use crate::decision_laws::loaded_problems_are_printable;
+use crate::refusal::{Reason, Refusal, problem_of_file};
 use crate::sub_lists::SubLists;
 use core_min::core_places;
 use inst_logic::{ByteList, Memory, Problem};
 use outside_io::Library;
 use std::alloc::Global;
-use tptp_load::LoadError;
-
-/// Why no core is searched for.
-#[derive(Debug, Drop)]
-pub enum CoreRefusal {
-    /// The file gives no problem. The error is never want of memory.
-    Load(LoadError),
-    /// The first clause that has a function symbol with arguments, counted from 1.
-    Functions { clause: usize },
-    Memory,
-}
-
-impl From<Memory> for CoreRefusal {
-    ghost from_gives = { λ _ r. r ≡ why.Memory };
-
-    fn from(_e: Memory) -> CoreRefusal {
-        CoreRefusal::Memory
-    }
-}
-
-// The problem of the file.
-fn load<L: Library>(
-    alloc: Global,
-    file: &str,
-    root: Option<&str>,
-    files: &mut L,
-) -> Result<Problem, CoreRefusal>
-    ensures follows { Follows (L.told files.old) (L.told files.new) }
-    ensures ok { IfOk result (IsProblemOf (L.told files.old).files file.now (path_of root.entry)) }
-    ensures err { IfErr result (IsCoreRefusal (reading (L.told files.old) (L.told files.new)) file.now (path_of root.entry)) }
-{
-    match tptp_load::load(alloc, files, file, root) {
-        Ok(problem) => Ok(problem),
-        Err(LoadError::Memory) => Err(CoreRefusal::Memory),
-        Err(error) => Err(CoreRefusal::Load(error)),
-    }
-}
 
 // The places of a core.
 pub(crate) fn places_of(alloc: Global, p: &Problem) -> Result<Option<Vec<usize>>, Memory>
@@ -80,14 +43,14 @@ fn text_of(alloc: Global, file: &str, p: &Problem) -> Result<ByteList, Memory>
 }
 
 // The answer to a problem that was loaded, or why no core is searched for.
-fn answer(alloc: Global, file: &str, p: &Problem) -> Result<ByteList, CoreRefusal>
+fn answer(alloc: Global, file: &str, p: &Problem) -> Result<ByteList, Refusal>
     requires { IsGoodProblem p.now }
     ensures ok { IfOk result (λ text. IsTrue (is_function_free p.now.clauses) × (IsCoreText p.now file.now text ⊎ IsNoCoreText p.now file.now text)) }
-    ensures err { IfErr result (IsUncored p.now) }
+    ensures err { IfErr result (IsUnanswered IsUncored p.now) }
 {
     loaded_problems_are_printable();
     match first_with_functions(p) {
-        Some(clause) => Err(CoreRefusal::Functions { clause }),
+        Some(clause) => Err(Refusal::Unanswered(Reason::Functions { clause })),
         None => {
             let text = text_of(alloc, file, p)?;
             Ok(text)
@@ -102,13 +65,13 @@ pub fn core_file<L: Library>(
     file: &str,
     root: Option<&str>,
     files: &mut L,
-) -> Result<ByteList, CoreRefusal>
+) -> Result<ByteList, Refusal>
     requires name { IsTextName file.now }
     ensures follows { Follows (L.told files.old) (L.told files.new) }
     ensures ok { IfOk result (HasCoreAnswer (L.told files.old).files file.now (path_of root.entry)) }
-    ensures err { IfErr result (IsCoreRefusal (reading (L.told files.old) (L.told files.new)) file.now (path_of root.entry)) }
+    ensures err { IfErr result (IsRefusal IsUncored (reading (L.told files.old) (L.told files.new)) file.now (path_of root.entry)) }
 {
-    match load(alloc, file, root, files) {
+    match problem_of_file(alloc, file, root, files) {
         Ok(problem) => answer(alloc, file, &problem),
         Err(refusal) => Err(refusal),
     }

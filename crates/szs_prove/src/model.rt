@@ -1,18 +1,18 @@
 // The model with so many elements of the problem of a file: its tables, or the refutation of the problem's flattened form. That form
 // has no function symbols with arguments, so the engine decides it. A text is made whole before it is told.
-ghost use Rattle.std.specs.Prelude.{◌≡◌, ◌≤◌, ◌<◌, ℕ, IfErr, IfOk};
+ghost use Rattle.std.specs.Prelude.{◌≤◌, ◌<◌, IfErr, IfOk};
 ghost use Rattle.outside_io.specs.Told.{Follows};
 ghost use Rattle.tptp_load.specs.Problems.{IsGoodProblem};
 ghost use Rattle.tptp_load.specs.Includes.{path_of};
 ghost use Rattle.cert_format.specs.Printable.{IsTextName};
 ghost use Rattle.cert_front.specs.Kinds.{covered_value, refutation_value};
 ghost use Rattle.finite_model.specs.Tables.{IsTooWide};
-ghost use Rattle.szs_prove.specs.Answers.{IsProblemOf, reading};
+ghost use Rattle.szs_prove.specs.Answers.{IsRefusal, IsUnanswered, reading};
 ghost use Rattle.szs_prove.specs.Decisions.{IsDecision, IsShownBy, IsVerdict};
-ghost use Rattle.szs_prove.specs.ModelAnswers.{HasModelAnswer, IsModelRefusal, IsModelText, IsNoTablesText, IsTablesText, IsUnmodelled, flattened_problem};
-ghost use Rattle.szs_prove.specs.declared.model.ModelRefusal.TheVariants as why;
+ghost use Rattle.szs_prove.specs.ModelAnswers.{HasModelAnswer, IsModelText, IsNoTablesText, IsTablesText, IsUnmodelled, flattened_problem};
 
 use crate::decision::{Decision, decide};
+use crate::refusal::{Reason, Refusal, problem_of_file};
 use crate::saturation_test::tables_of;
 use crate::table_texts::{no_tables_text, tables_text};
 use crate::verdict_texts::refutation_text_of;
@@ -21,43 +21,6 @@ use finite_model::{flatten, is_too_wide};
 use inst_logic::{ByteList, Memory, Problem};
 use outside_io::Library;
 use std::alloc::Global;
-use tptp_load::{LoadError, load};
-
-/// Why there are neither tables nor a refutation.
-#[derive(Debug, Drop)]
-pub enum ModelRefusal {
-    /// The file gives no problem. The error is never want of memory.
-    Load(LoadError),
-    /// The tables have more than a million cells.
-    TooWide,
-    Memory,
-}
-
-impl From<Memory> for ModelRefusal {
-    ghost from_gives = { λ _ r. r ≡ why.Memory };
-
-    fn from(_e: Memory) -> ModelRefusal {
-        ModelRefusal::Memory
-    }
-}
-
-// The problem of the file.
-fn problem_of<L: Library>(
-    alloc: Global,
-    file: &str,
-    root: Option<&str>,
-    files: &mut L,
-) -> Result<Problem, ModelRefusal>
-    ensures follows { Follows (L.told files.old) (L.told files.new) }
-    ensures ok { IfOk result (IsProblemOf (L.told files.old).files file.now (path_of root.entry)) }
-    ensures err { (k : ℕ) → IfErr result (IsModelRefusal (reading (L.told files.old) (L.told files.new)) k file.now (path_of root.entry)) }
-{
-    match load(alloc, files, file, root) {
-        Ok(problem) => Ok(problem),
-        Err(LoadError::Memory) => Err(ModelRefusal::Memory),
-        Err(error) => Err(ModelRefusal::Load(error)),
-    }
-}
 
 // The text of the tables that the saturation gives.
 fn tables_text_of(
@@ -147,15 +110,15 @@ fn narrow_text(alloc: Global, k: usize, file: &str, p: &Problem) -> Result<ByteL
 }
 
 // The text for a problem, or that its tables are too wide.
-fn model_text(alloc: Global, k: usize, file: &str, p: &Problem) -> Result<ByteList, ModelRefusal>
+fn model_text(alloc: Global, k: usize, file: &str, p: &Problem) -> Result<ByteList, Refusal>
     requires some { 0 < k }
     requires few { k ≤ 64 }
     requires good { IsGoodProblem p.now }
     ensures ok { IfOk result (IsModelText k file.now p.now) }
-    ensures err { IfErr result (IsUnmodelled k p.now) }
+    ensures err { IfErr result (IsUnanswered (IsUnmodelled k) p.now) }
 {
     if is_too_wide(alloc, p, k)? {
-        return Err(ModelRefusal::TooWide);
+        return Err(Refusal::Unanswered(Reason::TooWide));
     }
     let text = narrow_text(alloc, k, file, p)?;
     Ok(text)
@@ -169,15 +132,15 @@ pub fn model_file<L: Library>(
     file: &str,
     root: Option<&str>,
     files: &mut L,
-) -> Result<ByteList, ModelRefusal>
+) -> Result<ByteList, Refusal>
     requires name { IsTextName file.now }
     requires some { 0 < k }
     requires few { k ≤ 64 }
     ensures follows { Follows (L.told files.old) (L.told files.new) }
     ensures ok { IfOk result (HasModelAnswer (L.told files.old).files k file.now (path_of root.entry)) }
-    ensures err { IfErr result (IsModelRefusal (reading (L.told files.old) (L.told files.new)) k file.now (path_of root.entry)) }
+    ensures err { IfErr result (IsRefusal (IsUnmodelled k) (reading (L.told files.old) (L.told files.new)) file.now (path_of root.entry)) }
 {
-    match problem_of(alloc, file, root, files) {
+    match problem_of_file(alloc, file, root, files) {
         Ok(problem) => model_text(alloc, k, file, &problem),
         Err(refusal) => Err(refusal),
     }

@@ -1,40 +1,21 @@
 // The verdict on the problem of a file: it is loaded, decided, and the text of its certificate is made whole before anything
 // is written, so that where memory is refused there is no verdict that breaks off.
-ghost use Rattle.std.specs.Prelude.{◌≤◌, ℕ, IfOk, IfErr};
+ghost use Rattle.std.specs.Prelude.{◌≤◌, IfOk, IfErr};
 ghost use Rattle.cert_format.specs.Printable.{IsTextName};
 ghost use Rattle.outside_io.specs.Told.{Follows};
 ghost use Rattle.tptp_load.specs.Problems.{IsGoodProblem};
 ghost use Rattle.tptp_load.specs.Includes.{path_of};
 ghost use Rattle.szs_prove.specs.Decisions.{IsDecision};
-ghost use Rattle.szs_prove.specs.Answers.{HasVerdict, IsProblemOf, IsRefusal, reading};
-ghost use Rattle.szs_prove.specs.Proving.{HasCertificate, IsUndecided};
+ghost use Rattle.szs_prove.specs.Answers.{HasVerdict, IsRefusal, IsUnanswered, IsUndecided, reading};
+ghost use Rattle.szs_prove.specs.Proving.{HasCertificate};
 
 use crate::decision::{Decision, decide};
 use crate::decision_laws::loaded_problems_are_printable;
-use crate::refusal::Refusal;
+use crate::refusal::{Reason, Refusal, problem_of_file};
 use crate::verdict_texts::{refutation_text_of, saturation_text_of};
-use inst_logic::{ByteList, Memory, Problem};
+use inst_logic::{ByteList, Problem};
 use outside_io::Library;
 use std::alloc::Global;
-use tptp_load::LoadError;
-
-// The problem of the file.
-fn load<L: Library>(
-    alloc: Global,
-    file: &str,
-    root: Option<&str>,
-    files: &mut L,
-) -> Result<Problem, Refusal>
-    ensures follows { Follows (L.told files.old) (L.told files.new) }
-    ensures ok { IfOk result (IsProblemOf (L.told files.old).files file.now (path_of root.entry)) }
-    ensures err { (budget : ℕ) → IfErr result (IsRefusal (reading (L.told files.old) (L.told files.new)) file.now (path_of root.entry) budget) }
-{
-    match tptp_load::load(alloc, files, file, root) {
-        Ok(problem) => Ok(problem),
-        Err(LoadError::Memory) => Err(Refusal::Memory),
-        Err(error) => Err(Refusal::Load(error)),
-    }
-}
 
 // The text of what was decided of the problem in this budget.
 fn text_of(
@@ -46,7 +27,7 @@ fn text_of(
 ) -> Result<ByteList, Refusal>
     requires { IsDecision _problem.now budget decision }
     ensures ok { IfOk result (HasCertificate _problem.now file.now) }
-    ensures err { IfErr result (IsUndecided _problem.now budget) }
+    ensures err { IfErr result (IsUnanswered (IsUndecided budget) _problem.now) }
 {
     match decision {
         Decision::Unsatisfiable(cert) => {
@@ -57,11 +38,11 @@ fn text_of(
             let saturation = saturation_text_of(alloc, file, cert)?;
             Ok(saturation)
         }
-        Decision::OutOfBudget { left, wanted } => Err(Refusal::OutOfBudget {
+        Decision::OutOfBudget { left, wanted } => Err(Refusal::Unanswered(Reason::OutOfBudget {
             budget,
             left,
             wanted,
-        }),
+        })),
     }
 }
 
@@ -75,7 +56,7 @@ fn certificate(
     requires problem { IsGoodProblem problem.now }
     requires budget { budget ≤ 1000000000000 }
     ensures ok { IfOk result (HasCertificate problem.now file.now) }
-    ensures err { IfErr result (IsUndecided problem.now budget) }
+    ensures err { IfErr result (IsUnanswered (IsUndecided budget) problem.now) }
 {
     loaded_problems_are_printable();
     let decision = decide(alloc, problem, budget)?;
@@ -95,9 +76,9 @@ pub fn prove<L: Library>(
     requires budget { budget ≤ 1000000000000 }
     ensures follows { Follows (L.told files.old) (L.told files.new) }
     ensures ok { IfOk result (HasVerdict (L.told files.old).files file.now (path_of root.entry)) }
-    ensures err { IfErr result (IsRefusal (reading (L.told files.old) (L.told files.new)) file.now (path_of root.entry) budget) }
+    ensures err { IfErr result (IsRefusal (IsUndecided budget) (reading (L.told files.old) (L.told files.new)) file.now (path_of root.entry)) }
 {
-    match load(alloc, file, root, files) {
+    match problem_of_file(alloc, file, root, files) {
         Ok(problem) => certificate(alloc, file, &problem, budget),
         Err(refusal) => Err(refusal),
     }

@@ -1,23 +1,38 @@
-// Why there is no verdict, and what is told of it.
-ghost use Rattle.std.specs.Prelude.{◌≡◌, ◌∷◌, [], codes};
+// Why a problem of a file has no answer, and what is told of it. All commands that begin with such a problem refuse by this.
+ghost use Rattle.std.specs.Prelude.{◌≡◌, ◌∷◌, [], codes, IfErr, IfOk};
 ghost use Rattle.std.specs.List.{concat};
 ghost use Rattle.outside_io.specs.Pieces.{bytes_of, text_of};
-ghost use Rattle.szs_prove.specs.Texts.{budget_line, load_reason, load_status, reason_of, statement_line, status_of, text_reason, text_status, which_word};
+ghost use Rattle.outside_io.specs.Told.{Follows};
+ghost use Rattle.tptp_load.specs.Includes.{path_of};
+ghost use Rattle.szs_prove.specs.Answers.{IsProblemOf, IsUnloaded, reading};
+ghost use Rattle.szs_prove.specs.Texts.{budget_line, functions_line, load_reason, load_status, reason_line, reason_of, reason_status, statement_line, status_of, text_reason, text_status, which_word};
 ghost use Rattle.szs_prove.specs.declared.refusal.Refusal.TheVariants as why;
 
-use inst_logic::{Memory, Name};
-use outside_io::{Line, Piece, Status, text_line};
+use inst_logic::{Memory, Name, Problem};
+use outside_io::{Library, Line, Piece, Status, text_line};
+use std::alloc::Global;
 use tptp_load::LoadError;
 use tptp_read::{ReadError, Which};
 
-/// Why there is no verdict.
+/// Why a problem that was loaded has no answer.
+#[derive(Clone, Copy, Debug, PartialEq, Eq)]
+pub enum Reason {
+    /// No conclusion that is open fits into what is left of the budget; the size of the least of them is wanted. All three
+    /// count symbols and variables.
+    OutOfBudget { budget: u64, left: u64, wanted: u64 },
+    /// The tables of a model would have more than a million cells.
+    TooWide,
+    /// No core is searched for: the first clause that has a function symbol with arguments, counted from 1.
+    Functions { clause: usize },
+}
+
+/// Why the problem of a file has no answer.
 #[derive(Debug, Drop)]
 pub enum Refusal {
     /// The file gives no problem. The error is never want of memory.
     Load(LoadError),
-    /// No conclusion that is open fits into what is left of the budget; the size of the least of them is wanted. All three
-    /// count symbols and variables.
-    OutOfBudget { budget: u64, left: u64, wanted: u64 },
+    /// The problem has no answer.
+    Unanswered(Reason),
     Memory,
 }
 
@@ -26,6 +41,24 @@ impl From<Memory> for Refusal {
 
     fn from(_e: Memory) -> Refusal {
         Refusal::Memory
+    }
+}
+
+/// The problem of the file. The root is where includes are tried too.
+pub(crate) fn problem_of_file<L: Library>(
+    alloc: Global,
+    file: &str,
+    root: Option<&str>,
+    files: &mut L,
+) -> Result<Problem, Refusal>
+    ensures follows { Follows (L.told files.old) (L.told files.new) }
+    ensures ok { IfOk result (IsProblemOf (L.told files.old).files file.now (path_of root.entry)) }
+    ensures err { IfErr result (IsUnloaded (reading (L.told files.old) (L.told files.new)) file.now (path_of root.entry)) }
+{
+    match tptp_load::load(alloc, files, file, root) {
+        Ok(problem) => Ok(problem),
+        Err(LoadError::Memory) => Err(Refusal::Memory),
+        Err(error) => Err(Refusal::Load(error)),
     }
 }
 
@@ -170,6 +203,48 @@ fn budget_line<'a>(budget: u64, left: u64, wanted: u64) -> Line<'a>
     ]
 }
 
+// The number of the first clause that has functions.
+fn functions_line<'a>(clause: usize) -> Line<'a>
+    ensures { text_of result ≡ functions_line clause }
+{
+    let none = Piece::Text(b"");
+    [
+        Piece::Text(b"% functions: clause "),
+        Piece::Number(clause as u64),
+        Piece::Text(b"\n"),
+        none,
+        none,
+        none,
+        none,
+    ]
+}
+
+impl Reason {
+    fn status(self) -> Status
+        ensures { result ≡ reason_status self }
+    {
+        match self {
+            Reason::OutOfBudget { .. } => Status::ResourceOut,
+            Reason::TooWide => Status::InputError,
+            Reason::Functions { .. } => Status::Inappropriate,
+        }
+    }
+
+    fn line<'a>(self) -> Line<'a>
+        ensures { text_of result ≡ reason_line self }
+    {
+        match self {
+            Reason::OutOfBudget {
+                budget,
+                left,
+                wanted,
+            } => budget_line(budget, left, wanted),
+            Reason::TooWide => text_line(b"% limit tables\n"),
+            Reason::Functions { clause } => functions_line(clause),
+        }
+    }
+}
+
 impl Refusal {
     /// The status that is told.
     pub fn status(&self) -> Status
@@ -177,7 +252,7 @@ impl Refusal {
     {
         match self {
             Refusal::Load(error) => load_status(error),
-            Refusal::OutOfBudget { .. } => Status::ResourceOut,
+            Refusal::Unanswered(reason) => reason.status(),
             Refusal::Memory => Status::MemoryOut,
         }
     }
@@ -188,11 +263,7 @@ impl Refusal {
     {
         match self {
             Refusal::Load(error) => load_reason(error),
-            Refusal::OutOfBudget {
-                budget,
-                left,
-                wanted,
-            } => budget_line(*budget, *left, *wanted),
+            Refusal::Unanswered(reason) => reason.line(),
             Refusal::Memory => text_line(b""),
         }
     }

@@ -166,8 +166,8 @@ fn tell_saturation(
     of_saturation(alloc, &mut cert, row, ending)
 }
 
-// What is told of a run that has no certificate.
-fn without_certificate(ending: Ending) -> Told {
+/// What is told of a run that ends so, where all that is told beside is as it is wanted.
+pub fn as_wanted(ending: Ending) -> Told {
     Told {
         ending,
         members: true,
@@ -194,7 +194,7 @@ pub fn tell(alloc: Global, answer: Result<Outcome, Memory>, row: &Row) -> Result
             let ending = Ending::OutOfBudget { left, wanted };
             tell_saturation(alloc, state, journal, row, ending)
         }
-        Err(Memory) => Ok(without_certificate(Ending::Memory)),
+        Err(Memory) => Ok(as_wanted(Ending::Memory)),
     }
 }
 
@@ -206,7 +206,7 @@ pub fn tell_or_given_up(
 ) -> Result<Told, Fail> {
     match answer {
         Ok(Some(outcome)) => tell(alloc, Ok(outcome), row),
-        Ok(None) => Ok(without_certificate(Ending::GivenUp)),
+        Ok(None) => Ok(as_wanted(Ending::GivenUp)),
         Err(Memory) => tell(alloc, Err(Memory), row),
     }
 }

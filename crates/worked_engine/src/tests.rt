@@ -1,6 +1,6 @@
 // Problems that each solver decides with each index, and runs that meet a refusing index.
 use crate::engines::{Engine, row_told};
-use crate::outcomes::{Ending, Row, Told};
+use crate::outcomes::{Ending, Row, as_wanted};
 use std::alloc::Global;
 use std::process::Abort;
 use std::test::Fail;
@@ -207,16 +207,6 @@ fn rows() -> [Row<'static>; 17] {
             ("cnf(g,plain,p(bot_0)).", Some(&[1, 2, 3, 3])),
         ),
     ]
-}
-
-// What is told where the run is as it is wanted.
-fn as_wanted(ending: Ending) -> Told {
-    Told {
-        ending,
-        members: true,
-        grounds: true,
-        places: true,
-    }
 }
 
 // Runs each row.

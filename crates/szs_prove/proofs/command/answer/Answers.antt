@@ -1,7 +1,7 @@
 use Rattle.std.proofs.Common.{arith, subst, sym, refl, map, string_bytes, ℕ, List, Option, codes}
 use Rattle.std.specs.Prelude.{IfOk, IfErr, Result, Ok, Err}
 use Rattle.command_words.specs.declared.request.Request.{Request}
-use Rattle.szs_prove.specs.Answers.{reading, HasVerdict, IsRefusal, IsUntouched, Reading}
+use Rattle.szs_prove.specs.Answers.{reading, HasVerdict, IsAnswered, IsRefusal, IsUndecided, IsUntouched, Reading, ReasonRelation}
 use Rattle.szs_prove.specs.Answered.{IsAnswer}
 use Rattle.szs_prove.specs.declared.answer.Answer.TheVariants.{Prove, Sat, Check, Rewrite, Ask, Stress, Qbf, Fmodel, Core}
 use Rattle.szs_prove.proofs.AskedAtoms.{asked_atom_is_formed, asked_atom_is_free}
@@ -18,11 +18,9 @@ use Rattle.cert_front.specs.declared.reply.Reply.{Reply}
 use Rattle.cert_front.specs.declared.rewriting.Rewriting.{Rewriting}
 use Rattle.cert_front.specs.declared.words.Form.{Form}
 use Rattle.command_words.specs.Asked.{IsAsked, ask, asked, check, core, fmodel, name_of, prove, rewrite, stress}
-use Rattle.szs_prove.specs.CoreAnswers.{HasCoreAnswer, IsCoreRefusal}
-use Rattle.szs_prove.specs.ModelAnswers.{HasModelAnswer, IsModelRefusal}
+use Rattle.szs_prove.specs.CoreAnswers.{HasCoreAnswer, IsUncored}
+use Rattle.szs_prove.specs.ModelAnswers.{HasModelAnswer, IsUnmodelled}
 use Rattle.szs_prove.specs.Sizes.{IsRefutedIn}
-use Rattle.szs_prove.specs.declared.cores.CoreRefusal.{CoreRefusal}
-use Rattle.szs_prove.specs.declared.model.ModelRefusal.{ModelRefusal}
 use Rattle.szs_prove.specs.declared.refusal.Refusal.{Refusal}
 use Rattle.szs_prove.specs.declared.sizes.Size.{Size}
 use Rattle.szs_prove.proofs.command.answer.Goals as goal
@@ -30,10 +28,14 @@ use Rattle.szs_prove.proofs.command.answer.Goals as goal
 -- ---- the causes of what the calls of the commands answer
 
 module _ (words : List (List ℕ)) (read : Reading) where
+  of_problem : (answers : List ℕ → Type 0) (bars : ReasonRelation) (file : List ℕ) (root : Option (List ℕ)) (o : Result (List ℕ) Refusal) → IfOk o answers
+      → IfErr o (IsRefusal bars read file root) → IsAnswered answers bars read file root o
+  of_problem answers bars file root (Ok text) ok err = ok
+  of_problem answers bars file root (Err why) ok err = err
+
   proved : (file : List ℕ) (root : Option (List ℕ)) (budget : ℕ) (o : Result (List ℕ) Refusal) → IsAsked words (prove file root budget)
-      → IfOk o (HasVerdict read.old.files file root) → IfErr o (IsRefusal read file root budget) → IsAnswer words read file (Prove o)
-  proved file root budget (Ok text) asked ok err = (root, budget, asked, ok)
-  proved file root budget (Err why) asked ok err = (root, budget, asked, err)
+      → IfOk o (HasVerdict read.old.files file root) → IfErr o (IsRefusal (IsUndecided budget) read file root) → IsAnswer words read file (Prove o)
+  proved file root budget o asked ok err = (root, budget, asked, of_problem (HasVerdict read.old.files file root) (IsUndecided budget) file root o ok err)
 
   checked : (cert : List ℕ) (problem root : Option (List ℕ)) (o : Result (Form × Judgement) CheckFault) → IsAsked words (check cert problem root)
       → IfOk o (IsJudged read.old.files cert problem root) → IfErr o (IsCheckFault read.old.files read.old.faults read.new.faults cert problem root)
@@ -58,15 +60,13 @@ module _ (words : List (List ℕ)) (read : Reading) where
   measured number (Ok size) untouched asked ok = (refl, untouched, number, asked, ok)
   measured number (Err want) untouched asked ok = (refl, untouched, number, asked, tt)
 
-  modelled : (elements : ℕ) (file : List ℕ) (root : Option (List ℕ)) (o : Result (List ℕ) ModelRefusal) → IsAsked words (fmodel elements file root)
-      → IfOk o (HasModelAnswer read.old.files elements file root) → IfErr o (IsModelRefusal read elements file root) → IsAnswer words read file (Fmodel o)
-  modelled elements file root (Ok text) asked ok err = (elements, root, asked, ok)
-  modelled elements file root (Err why) asked ok err = (elements, root, asked, err)
+  modelled : (elements : ℕ) (file : List ℕ) (root : Option (List ℕ)) (o : Result (List ℕ) Refusal) → IsAsked words (fmodel elements file root)
+      → IfOk o (HasModelAnswer read.old.files elements file root) → IfErr o (IsRefusal (IsUnmodelled elements) read file root) → IsAnswer words read file (Fmodel o)
+  modelled elements file root o asked ok err = (elements, root, asked, of_problem (HasModelAnswer read.old.files elements file root) (IsUnmodelled elements) file root o ok err)
 
-  has_core : (file : List ℕ) (root : Option (List ℕ)) (o : Result (List ℕ) CoreRefusal) → IsAsked words (core file root)
-      → IfOk o (HasCoreAnswer read.old.files file root) → IfErr o (IsCoreRefusal read file root) → IsAnswer words read file (Core o)
-  has_core file root (Ok text) asked ok err = (root, asked, ok)
-  has_core file root (Err why) asked ok err = (root, asked, err)
+  has_core : (file : List ℕ) (root : Option (List ℕ)) (o : Result (List ℕ) Refusal) → IsAsked words (core file root)
+      → IfOk o (HasCoreAnswer read.old.files file root) → IfErr o (IsRefusal IsUncored read file root) → IsAnswer words read file (Core o)
+  has_core file root o asked ok err = (root, asked, of_problem (HasCoreAnswer read.old.files file root) IsUncored file root o ok err)
 
 -- ---- each command
 

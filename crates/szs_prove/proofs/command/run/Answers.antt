@@ -1,4 +1,5 @@
-use Rattle.szs_prove.proofs.Endings.{asked_atom, chain, check_failed, checked, decided, formula_value, has_core, interrupted, memory, modelled, read_fault, resource_out, rewritten, solved, stressed, took_verdict, usage_unread, write_fault}
+use Rattle.szs_prove.proofs.Endings.{asked_atom, chain, check_failed, checked, decided, formula_value, has_core, interrupted, memory, modelled, read_fault, resource_out, rewritten, solved, stressed, usage_unread, write_fault}
+use Rattle.szs_prove.proofs.TakenVerdicts.{took_verdict}
 use Rattle.szs_prove.proofs.Situated.{FormsOne, LoadsOne, exact}
 use Rattle.szs_prove.proofs.command.run.Goals as goal
 

@@ -1,5 +1,6 @@
-use Rattle.szs_prove.specs.Answers.{reading}
-use Rattle.szs_prove.proofs.Proved.{all_refusals, all_verdicts}
+use Rattle.szs_prove.specs.Answers.{IsUndecided, reading}
+use Rattle.szs_prove.proofs.Proved.{all_verdicts}
+use Rattle.szs_prove.proofs.Refused.{all_refusals, load_refusal}
 use Rattle.szs_prove.proofs.prove.prove.Goals as goal
 
 pub certificate-requires-clause-problem : goal.certificate-requires-clause-problem
@@ -10,8 +11,9 @@ returns-in-Ok-clause-ok g c = all_verdicts _ c.args.file.now _ c.in-Ok.problem c
 
 pub returns-in-Ok-clause-err : goal.returns-in-Ok-clause-err
 returns-in-Ok-clause-err g c =
-    let read = reading (g.L.Library.told c.args.files.now) (g.L.Library.told c.load.new.files) in
-    all_refusals read c.args.file.now _ c.args.budget c.in-Ok.problem c.in-Ok.ensures.ok c.certificate.result c.certificate.ensures.err
+    let read = reading (g.L.Library.told c.args.files.now) (g.L.Library.told c.problem_of_file.new.files) in
+    all_refusals (IsUndecided c.args.budget) read c.args.file.now _ c.in-Ok.problem c.in-Ok.ensures.ok c.certificate.result c.certificate.ensures.err
 
 pub returns-in-Err-clause-err : goal.returns-in-Err-clause-err
-returns-in-Err-clause-err g c = c.in-Err.ensures.err c.args.budget
+returns-in-Err-clause-err g c =
+    load_refusal (IsUndecided c.args.budget) (reading (g.L.Library.told c.args.files.now) (g.L.Library.told c.problem_of_file.new.files)) c.args.file.now _ c.in-Err.refusal c.in-Err.ensures.err
