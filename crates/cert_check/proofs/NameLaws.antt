@@ -18,7 +18,7 @@ use Rattle.inst_calculus.proofs.Membership.{in_all, in_map, passes}
 use Rattle.inst_calculus.specs.Saturation.{IsCovered}
 use Rattle.cert_format.specs.Certificate as format
 use Rattle.cert_format.specs.Dues.{Due}
-use Rattle.cert_format.specs.TermLists.{HoldsBy, IsPartBy, Shows}
+use Rattle.cert_format.specs.TermLists.{HoldsBy, IsPartBy, Justifies}
 use Rattle.cert_format.specs.Validity.{IsCoverOf, SelectsAt}
 use Rattle.cert_format.proofs.Numbers.{slice_get_of_map}
 use Rattle.term_bank.proofs.Clauses.{clause_extends}
@@ -115,7 +115,7 @@ module _ (f g : Forest) (ms : List Member) (c : List (Signed ℕ)) where
       let part : IsPartBy (clause_at f m.clause) (clause_at f c) (map (tree_at g) h.terms) = subst (λ (x : Member). IsPartBy (clause_at f x.clause) (clause_at f c) (map (tree_at g) h.terms)) is (h.part m) in
       record {
         whole = subst (IsWholeBy g) (sym h.is) h.whole;
-        shows = subst (λ (b : By). Shows (map (entry_of f) ms) (clause_at f c) (by_of g b)) (sym h.is) (entry_of f m, entry_there f ms k (suc k) refl m place.within is, part);
+        shows = subst (λ (b : By). Justifies (map (entry_of f) ms) (clause_at f c) (by_of g b)) (sym h.is) (entry_of f m, entry_there f ms k (suc k) refl m place.within is, part);
         met = inr (any_of_place (λ m. Subsumes (clause_at f m.clause) (clause_at f c)) ms k place);
       }
 

@@ -6,7 +6,7 @@ use Rattle.inst_logic.specs.Derivations.{at_number}
 use Rattle.inst_calculus.specs.Axioms.{with_axioms}
 use Rattle.cert_format.specs.Certificate as format
 use Rattle.cert_format.specs.Dues.{Due, AreDue}
-use Rattle.cert_format.specs.Validity.{IsNamed, IsRightPair, IsShownInput, IsValidBase, ShowsAt}
+use Rattle.cert_format.specs.Validity.{IsNamed, IsRightPair, IsShownInput, IsValidBase, JustifiesAt}
 use Rattle.cert_values.specs.declared.certificate.By.{By}
 use Rattle.cert_values.specs.declared.certificate.Cover.{Cover}
 use Rattle.cert_values.specs.declared.certificate.Covered.{Covered}
@@ -31,8 +31,8 @@ shown_stays old new whole kept k h =
     let list : new.shown ≡ old.shown = ap (λ (x : Covered). x.shown) kept.rest in
     let shown : map (by_of new.cert.base.bank) new.shown ≡ map (by_of old.cert.base.bank) old.shown =
     subst (λ (bs : List By). map (by_of new.cert.base.bank) bs ≡ map (by_of old.cert.base.bank) old.shown) (sym list) (bys_same old.cert.base.bank new.cert.base.bank kept.cert.base.bank old.shown whole.shown) in
-    subst (λ (s : format.Saturation). ShowsAt s.base.members (at_number (with_axioms s.base.inputs) k) (at_number (map (by_of new.cert.base.bank) new.shown) k)) (sym same)
-    (subst (λ (bs : List format.By). ShowsAt (saturation_of old.cert).base.members (at_number (with_axioms (saturation_of old.cert).base.inputs) k) (at_number bs k)) (sym shown) h)
+    subst (λ (s : format.Saturation). JustifiesAt s.base.members (at_number (with_axioms s.base.inputs) k) (at_number (map (by_of new.cert.base.bank) new.shown) k)) (sym same)
+    (subst (λ (bs : List format.By). JustifiesAt (saturation_of old.cert).base.members (at_number (with_axioms (saturation_of old.cert).base.inputs) k) (at_number bs k)) (sym shown) h)
 
 pub empty_whole : (s : Saturation) → IsWholeSaturation s → (bs : List By) (vs : List Cover) → bs ≡ [] → vs ≡ [] → IsWholeCovered (record { cert = s; shown = bs; covers = vs })
 empty_whole s whole bs vs none empty = record {

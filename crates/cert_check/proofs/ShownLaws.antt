@@ -10,8 +10,8 @@ use Rattle.inst_logic.specs.Derivations.{at_number}
 use Rattle.inst_calculus.specs.Axioms.{with_axioms}
 use Rattle.inst_calculus.specs.Entries.{Entry}
 use Rattle.cert_format.specs.Certificate as format
-use Rattle.cert_format.specs.TermLists.{Shows}
-use Rattle.cert_format.specs.Validity.{IsRightInput, IsShownInput, IsValidBase, ShowsAt}
+use Rattle.cert_format.specs.TermLists.{Justifies}
+use Rattle.cert_format.specs.Validity.{IsRightInput, IsShownInput, IsValidBase, JustifiesAt}
 use Rattle.term_bank.specs.Forest.{clause_at}
 use Rattle.cert_values.specs.declared.certificate.By.{By}
 use Rattle.cert_values.specs.declared.certificate.Covered.{Covered}
@@ -36,7 +36,7 @@ module _ (c : Saturation) (valid : IsValidBase (base_of c.base)) (k : ℕ) where
     pub input_shown : (new : Saturation) (by : By) → IsShownBy c.base.bank new.base.bank c.base.members d by → ShowsInput c new k by
     input_shown new by h = record {
       whole = h.whole;
-      shows = λ e here. subst (λ (x : TreeClause). Shows (saturation_of c).base.members x (by_of new.base.bank by)) (same_Some (clause_at c.base.bank d) e (sym there ∙ here)) h.shows;
+      shows = λ e here. subst (λ (x : TreeClause). Justifies (saturation_of c).base.members x (by_of new.base.bank by)) (same_Some (clause_at c.base.bank d) e (sym there ∙ here)) h.shows;
     }
 
     pub input_right : (new : Saturation) (by : By) → IsShownBy c.base.bank new.base.bank c.base.members d by → IsRightInput (saturation_of c) k
@@ -46,47 +46,47 @@ module _ (c : Saturation) (valid : IsValidBase (base_of c.base)) (k : ℕ) where
     input_wrong none right = none ((right_input c valid k d at).1 right)
 
     -- what is named for it
-    pub shown_there : (bs : List format.By) (r : Bool) (o : Option format.By) → at_number bs k ≡ o → IsTrue r ↔ ShowsAt (saturation_of c).base.members (Some (clause_at c.base.bank d)) o
-        → IsTrue r ↔ ShowsAt (saturation_of c).base.members (at_number (with_axioms (saturation_of c).base.inputs) k) (at_number bs k)
+    pub shown_there : (bs : List format.By) (r : Bool) (o : Option format.By) → at_number bs k ≡ o → IsTrue r ↔ JustifiesAt (saturation_of c).base.members (Some (clause_at c.base.bank d)) o
+        → IsTrue r ↔ JustifiesAt (saturation_of c).base.members (at_number (with_axioms (saturation_of c).base.inputs) k) (at_number bs k)
     shown_there bs r o here law =
-        subst (λ x. IsTrue r ↔ ShowsAt (saturation_of c).base.members x (at_number bs k)) (sym there) (subst (λ x. IsTrue r ↔ ShowsAt (saturation_of c).base.members (Some (clause_at c.base.bank d)) x) (sym here) law)
+        subst (λ x. IsTrue r ↔ JustifiesAt (saturation_of c).base.members x (at_number bs k)) (sym there) (subst (λ x. IsTrue r ↔ JustifiesAt (saturation_of c).base.members (Some (clause_at c.base.bank d)) x) (sym here) law)
 
-  none_at : (es : List Entry) (bs : List format.By) → 0 < k → (r : Bool) → (r ≡ true → length bs < k) → (r ≡ false → k ≤ length bs) → IsTrue r ↔ ShowsAt es None (at_number bs k)
+  none_at : (es : List Entry) (bs : List format.By) → 0 < k → (r : Bool) → (r ≡ true → length bs < k) → (r ≡ false → k ≤ length bs) → IsTrue r ↔ JustifiesAt es None (at_number bs k)
   none_at es bs positive r y n = go k positive y n
     where
-      at_past : (xs : List format.By) (i : ℕ) → length xs ≤ i → ShowsAt es None (slice_get xs i)
+      at_past : (xs : List format.By) (i : ℕ) → length xs ≤ i → JustifiesAt es None (slice_get xs i)
       at_past [] i past = tt
       at_past (x ∷ xs) zero past = absurd (omega (arith, past))
       at_past (x ∷ xs) (suc i) past = at_past xs i (omega (arith, past))
 
-      not_within : (xs : List format.By) (i : ℕ) → i < length xs → ¬ ShowsAt es None (slice_get xs i)
+      not_within : (xs : List format.By) (i : ℕ) → i < length xs → ¬ JustifiesAt es None (slice_get xs i)
       not_within [] i within h = absurd (omega (arith, within))
       not_within (x ∷ xs) zero within h = h
       not_within (x ∷ xs) (suc i) within h = not_within xs i (omega (arith, within)) h
 
-      by : (b : Bool) (i : ℕ) → (b ≡ true → length bs < suc i) → (b ≡ false → suc i ≤ length bs) → IsTrue b ↔ ShowsAt es None (slice_get bs i)
+      by : (b : Bool) (i : ℕ) → (b ≡ true → length bs < suc i) → (b ≡ false → suc i ≤ length bs) → IsTrue b ↔ JustifiesAt es None (slice_get bs i)
       by true i y n = ((λ t. at_past bs i (let w = y refl in omega (arith, w))), (λ h. refl))
       by false i y n = ((λ t. absurd (let e : false ≡ true = t in cc)), (λ h. absurd (not_within bs i (let w = n refl in omega (arith, w)) h)))
 
-      go : (m : ℕ) → 0 < m → (r ≡ true → length bs < m) → (r ≡ false → m ≤ length bs) → IsTrue r ↔ ShowsAt es None (at_number bs m)
+      go : (m : ℕ) → 0 < m → (r ≡ true → length bs < m) → (r ≡ false → m ≤ length bs) → IsTrue r ↔ JustifiesAt es None (at_number bs m)
       go zero p y n = absurd (omega (arith, p))
       go (suc i) p y n = by r i y n
 
   pub shown_alone : at_number (c.base.inputs ++ c.base.axioms) k ≡ None → (bs : List format.By) → 0 < k → (r : Bool) → (r ≡ true → length bs < k) → (r ≡ false → k ≤ length bs)
-      → IsTrue r ↔ ShowsAt (saturation_of c).base.members (at_number (with_axioms (saturation_of c).base.inputs) k) (at_number bs k)
+      → IsTrue r ↔ JustifiesAt (saturation_of c).base.members (at_number (with_axioms (saturation_of c).base.inputs) k) (at_number bs k)
   shown_alone none bs positive r y n =
-      subst (λ x. IsTrue r ↔ ShowsAt (saturation_of c).base.members x (at_number bs k)) (sym (stated_at c valid k ∙ ap (option_map (clause_at c.base.bank)) none)) (none_at (saturation_of c).base.members bs positive r y n)
+      subst (λ x. IsTrue r ↔ JustifiesAt (saturation_of c).base.members x (at_number bs k)) (sym (stated_at c valid k ∙ ap (option_map (clause_at c.base.bank)) none)) (none_at (saturation_of c).base.members bs positive r y n)
 
 -- ---- one more of the list
 
-shown_push : (es : List Entry) (ds : List TreeClause) (bs : List format.By) (b : format.By) (i : ℕ) → length bs ≡ i → (d : TreeClause) → slice_get ds i ≡ Some d → Shows es d b
-    → ((k : ℕ) → k < i → ShowsAt es (slice_get ds k) (slice_get bs k)) → (k : ℕ) → k < i + 1 → ShowsAt es (slice_get ds k) (slice_get (bs ++ b ∷ []) k)
+shown_push : (es : List Entry) (ds : List TreeClause) (bs : List format.By) (b : format.By) (i : ℕ) → length bs ≡ i → (d : TreeClause) → slice_get ds i ≡ Some d → Justifies es d b
+    → ((k : ℕ) → k < i → JustifiesAt es (slice_get ds k) (slice_get bs k)) → (k : ℕ) → k < i + 1 → JustifiesAt es (slice_get ds k) (slice_get (bs ++ b ∷ []) k)
 shown_push es ds bs b i count d at shows before k less = elim (cases_lt k i) [
-  | inl early ↦ subst (ShowsAt es (slice_get ds k)) (sym (slice_left bs (b ∷ []) k (omega (arith, early, count)))) (before k early)
+  | inl early ↦ subst (JustifiesAt es (slice_get ds k)) (sym (slice_left bs (b ∷ []) k (omega (arith, early, count)))) (before k early)
   | inr late ↦
       let e : i ≡ k = omega (arith, late, less) in
-      subst (λ x. ShowsAt es (slice_get ds x) (slice_get (bs ++ b ∷ []) x)) e
-      (subst (λ x. ShowsAt es x (slice_get (bs ++ b ∷ []) i)) (sym at) (subst (ShowsAt es (Some d)) (sym (slice_end bs b i (sym count))) shows))
+      subst (λ x. JustifiesAt es (slice_get ds x) (slice_get (bs ++ b ∷ []) x)) e
+      (subst (λ x. JustifiesAt es x (slice_get (bs ++ b ∷ []) i)) (sym at) (subst (JustifiesAt es (Some d)) (sym (slice_end bs b i (sym count))) shows))
 ]
 
 slice_within : {A : Type 0} (xs : List A) (k : ℕ) → k < length xs → (x : A) × (slice_get xs k ≡ Some x)
@@ -106,8 +106,8 @@ stated_some c valid i less none =
 
 module _ (old : Covered) (s : Saturation) (whole : IsWholeCovered old) (kept : KeepsSaturation old.cert s) (by : By) (i : ℕ) where
   pub shown_more : IsValidBase (base_of old.cert.base) → i < length old.cert.base.inputs + length old.cert.base.axioms → length old.shown ≡ i → ShowsInput old.cert s (suc i) by
-      → ((k : ℕ) → k < i → ShowsAt (saturation_of old.cert).base.members (slice_get (with_axioms (saturation_of old.cert).base.inputs) k) (slice_get (covered_of old).shown k))
-      → (k : ℕ) → k < i + 1 → ShowsAt (saturation_of old.cert).base.members (slice_get (with_axioms (saturation_of old.cert).base.inputs) k) (slice_get (map (by_of s.base.bank) (old.shown ++ by ∷ [])) k)
+      → ((k : ℕ) → k < i → JustifiesAt (saturation_of old.cert).base.members (slice_get (with_axioms (saturation_of old.cert).base.inputs) k) (slice_get (covered_of old).shown k))
+      → (k : ℕ) → k < i + 1 → JustifiesAt (saturation_of old.cert).base.members (slice_get (with_axioms (saturation_of old.cert).base.inputs) k) (slice_get (map (by_of s.base.bank) (old.shown ++ by ∷ [])) k)
   shown_more valid within count shows before =
       let f = old.cert.base.bank in
       let g = s.base.bank in
@@ -115,12 +115,12 @@ module _ (old : Covered) (s : Saturation) (whole : IsWholeCovered old) (kept : K
       let same : map (by_of f) old.shown ++ by_of g by ∷ [] ≡ map (by_of g) (old.shown ++ by ∷ []) =
       ap (λ xs. xs ++ by_of g by ∷ []) (sym (bys_same f g kept.base.bank old.shown whole.shown)) ∙ sym (map-append (by_of g) old.shown (by ∷ [])) in
       let long : length (map (by_of f) old.shown) ≡ i = length-map old.shown (by_of f) ∙ count in
-      subst (λ xs. (k : ℕ) → k < i + 1 → ShowsAt (saturation_of old.cert).base.members (slice_get (with_axioms (saturation_of old.cert).base.inputs) k) (slice_get xs k)) same
+      subst (λ xs. (k : ℕ) → k < i + 1 → JustifiesAt (saturation_of old.cert).base.members (slice_get (with_axioms (saturation_of old.cert).base.inputs) k) (slice_get xs k)) same
       (shown_push (saturation_of old.cert).base.members (with_axioms (saturation_of old.cert).base.inputs) (map (by_of f) old.shown) (by_of g by) i long d at (shows.shows d at) before)
 
 -- all of them
 pub all_shown : (c : Covered) → IsValidBase (base_of c.cert.base) → (i : ℕ) → length c.cert.base.inputs + length c.cert.base.axioms ≤ i → length c.shown ≡ i
-    → ((k : ℕ) → k < i → ShowsAt (saturation_of c.cert).base.members (slice_get (with_axioms (saturation_of c.cert).base.inputs) k) (slice_get (covered_of c).shown k)) → (n : ℕ) → IsShownInput (covered_of c) n
+    → ((k : ℕ) → k < i → JustifiesAt (saturation_of c.cert).base.members (slice_get (with_axioms (saturation_of c.cert).base.inputs) k) (slice_get (covered_of c).shown k)) → (n : ℕ) → IsShownInput (covered_of c) n
 all_shown c valid i past count before zero = tt
 all_shown c valid i past count before (suc k) = elim (cases_lt k i) [
   | inl early ↦ before k early
@@ -128,7 +128,7 @@ all_shown c valid i past count before (suc k) = elim (cases_lt k i) [
       let es = (saturation_of c.cert).base.members in
       let none : slice_get (with_axioms (saturation_of c.cert).base.inputs) k ≡ None = slice_past (with_axioms (saturation_of c.cert).base.inputs) k (omega (arith, late, past, stated_length c.cert valid)) in
       let empty : slice_get (covered_of c).shown k ≡ None = slice_past (covered_of c).shown k (omega (arith, late, count, length-map c.shown (by_of c.cert.base.bank))) in
-      subst (λ x. ShowsAt es x (slice_get (covered_of c).shown k)) (sym none) (subst (ShowsAt es None) (sym empty) tt)
+      subst (λ x. JustifiesAt es x (slice_get (covered_of c).shown k)) (sym none) (subst (JustifiesAt es None) (sym empty) tt)
 ]
 
 -- the first that is wrong, or none past the longer list
@@ -145,7 +145,7 @@ none_unshown c valid i past short before (suc k) = elim (cases_lt k i) [
       let es = (saturation_of c.cert).base.members in
       let none : slice_get (with_axioms (saturation_of c.cert).base.inputs) k ≡ None = slice_past (with_axioms (saturation_of c.cert).base.inputs) k (omega (arith, late, past, stated_length c.cert valid)) in
       let empty : slice_get (covered_of c).shown k ≡ None = slice_past (covered_of c).shown k (omega (arith, late, short, length-map c.shown (by_of c.cert.base.bank))) in
-      subst (λ x. ShowsAt es x (slice_get (covered_of c).shown k)) (sym none) (subst (ShowsAt es None) (sym empty) tt)
+      subst (λ x. JustifiesAt es x (slice_get (covered_of c).shown k)) (sym none) (subst (JustifiesAt es None) (sym empty) tt)
 ]
 
 -- ---- what is named for a number
@@ -165,5 +165,5 @@ whole_by_at c whole i by at =
     let same : get_or c.shown i by ≡ by = same_Some (get_or c.shown i by) by (sym (slice_get-get_or c.shown i by within) ∙ at) in
     subst (IsWholeBy c.cert.base.bank) same (whole.shown i by within)
 
-pub none_shows : (es : List Entry) (d : TreeClause) → IsTrue false ↔ ShowsAt es (Some d) None
+pub none_shows : (es : List Entry) (d : TreeClause) → IsTrue false ↔ JustifiesAt es (Some d) None
 none_shows es d = ((λ t. absurd (let e : false ≡ true = t in cc)), (λ h. absurd h))

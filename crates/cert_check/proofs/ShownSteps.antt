@@ -6,7 +6,7 @@ use Rattle.std.proofs.lemmas.List.Elements.{All-push}
 use Rattle.inst_logic.specs.Derivations.{at_number}
 use Rattle.inst_calculus.specs.Axioms.{with_axioms}
 use Rattle.cert_format.specs.Certificate as format
-use Rattle.cert_format.specs.Validity.{IsRightInput, IsShownInput, IsValidBase, ShowsAt}
+use Rattle.cert_format.specs.Validity.{IsRightInput, IsShownInput, IsValidBase, JustifiesAt}
 use Rattle.cert_values.specs.declared.certificate.Base.{Base}
 use Rattle.cert_values.specs.declared.certificate.By.{By}
 use Rattle.cert_values.specs.declared.certificate.Covered.{Covered}
@@ -27,7 +27,7 @@ pub record ShowsUpTo (start now : Covered) (i : ℕ) : Type 0 where
   pub whole : IsWholeCovered now
   pub count : length now.shown ≡ i
   pub right : (k : ℕ) → k < i → IsRightInput (saturation_of start.cert) (suc k)
-  pub shown : (k : ℕ) → k < i → ShowsAt (saturation_of now.cert).base.members (slice_get (with_axioms (saturation_of now.cert).base.inputs) k) (slice_get (covered_of now).shown k)
+  pub shown : (k : ℕ) → k < i → JustifiesAt (saturation_of now.cert).base.members (slice_get (with_axioms (saturation_of now.cert).base.inputs) k) (slice_get (covered_of now).shown k)
 
 pub shows_none : (start : Covered) → IsWholeCovered start → start.shown ≡ [] → ShowsUpTo start start 0
 shows_none start whole none = record {
@@ -76,7 +76,7 @@ module _ (start now : Covered) (i : ℕ) (whole : IsWholeCovered start) (valid :
         count = length-append now.shown (by ∷ []) ∙ (let e = h.count in omega (arith, e));
         right = below_more (λ k. IsRightInput (saturation_of start.cert) (suc k)) i h.right
             (subst (λ (x : format.Saturation). IsRightInput x (suc i)) same (subst (λ n. IsRightInput (saturation_of now.cert) n) number right));
-        shown = subst (λ (x : format.Saturation). (k : ℕ) → k < i + 1 → ShowsAt x.base.members (slice_get (with_axioms x.base.inputs) k) (slice_get (map (by_of s.base.bank) (now.shown ++ by ∷ [])) k)) (sym later)
+        shown = subst (λ (x : format.Saturation). (k : ℕ) → k < i + 1 → JustifiesAt x.base.members (slice_get (with_axioms x.base.inputs) k) (slice_get (map (by_of s.base.bank) (now.shown ++ by ∷ [])) k)) (sym later)
             (shown_more now s h.whole keeps by i base_valid (omega (arith, within, stated)) h.count (subst (λ n. ShowsInput now.cert s n by) number shows) h.shown);
       }
 

@@ -7,7 +7,7 @@ use Rattle.inst_logic.specs.Unifiers.{Sided}
 use Rattle.inst_calculus.specs.Axioms.{with_axioms}
 use Rattle.inst_calculus.specs.Models.{Member as Selected}
 use Rattle.inst_logic.specs.Derivations.{at_number}
-use Rattle.cert_format.specs.TermLists.{HoldsBy, IsPartBy, Shows}
+use Rattle.cert_format.specs.TermLists.{HoldsBy, IsPartBy, Justifies}
 use Rattle.cert_format.specs.Validity.{SelectsAt}
 use Rattle.cert_values.specs.declared.certificate.By.{By}
 use Rattle.cert_values.specs.declared.certificate.By.TheVariants.{Part}
@@ -51,12 +51,12 @@ pub record NamesSide (old new : Saturation) (es : List Binding) (x : Side) (n : 
 -- what is named shows the input or axiom
 pub record ShowsInput (old new : Saturation) (k : ℕ) (by : By) : Type 0 where
   pub whole : IsWholeBy new.base.bank by
-  pub shows : (d : TreeClause) → at_number (with_axioms (saturation_of old).base.inputs) k ≡ Some d → Shows (saturation_of old).base.members d (by_of new.base.bank by)
+  pub shows : (d : TreeClause) → at_number (with_axioms (saturation_of old).base.inputs) k ≡ Some d → Justifies (saturation_of old).base.members d (by_of new.base.bank by)
 
 -- what is named shows the clause; f is the bank before, g after
 pub record IsShownBy (f g : Forest) (ms : List Member) (c : List (Signed ℕ)) (by : By) : Type 0 where
   pub whole : IsWholeBy g by
-  pub shows : Shows (map (entry_of f) ms) (clause_at f c) (by_of g by)
+  pub shows : Justifies (map (entry_of f) ms) (clause_at f c) (by_of g by)
   pub met : IsTautology (clause_at f c) ⊎ Any (λ m. Subsumes (clause_at f m.clause) (clause_at f c)) ms
 
 -- nothing can show it

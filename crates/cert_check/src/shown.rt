@@ -2,7 +2,7 @@
 ghost use Rattle.std.specs.Prelude.{◌≡◌, ◌≢◌, ◌↔◌, ◌<◌, ℕ, [], length, All, IfNone, IfOk, IfSome, IsTrue, None, OnOk, suc};
 ghost use Rattle.inst_logic.specs.Derivations.{at_number};
 ghost use Rattle.inst_calculus.specs.Axioms.{with_axioms};
-ghost use Rattle.cert_format.specs.TermLists.{Shows};
+ghost use Rattle.cert_format.specs.TermLists.{Justifies};
 ghost use Rattle.cert_format.specs.Validity.{IsRightInput, IsShownInput};
 ghost use Rattle.term_bank.specs.Forest.{AreFormed, Extends, clause_at};
 ghost use Rattle.cert_values.specs.Values.{by_of, covered_of, entry_of, saturation_of};

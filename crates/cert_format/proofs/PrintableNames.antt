@@ -43,10 +43,10 @@ use Rattle.inst_logic.specs.WellFormed.{is_constant}
 use Rattle.inst_calculus.specs.Steps.{Step}
 use Rattle.inst_calculus.proofs.Membership.{in_map}
 use Rattle.inst_calculus.proofs.Instances.{part_of_itself}
-use Rattle.cert_format.specs.TermLists.{Shows, HoldsBy}
+use Rattle.cert_format.specs.TermLists.{Justifies, HoldsBy}
 use Rattle.cert_format.specs.Dues.{Due, pairs, AreDueOfSide, AreDueOfPair, apart, meeting, AreDue}
 use Rattle.cert_format.specs.Upgrades.{IsUpgrade}
-use Rattle.cert_format.specs.Validity.{ShowsAt, CoversAt, IsRightAxiom, IsValidRefutation, IsNamed}
+use Rattle.cert_format.specs.Validity.{JustifiesAt, CoversAt, IsRightAxiom, IsValidRefutation, IsNamed}
 use Rattle.cert_format.specs.declared.complaint.Complaint.TheVariants.{Axiom, Ground, Input, Cover as Named}
 use Rattle.cert_format.proofs.Numbers.{in_slice_get}
 use Rattle.cert_format.proofs.DueLists.{of_left, of_right, dues_exist, due_from}
@@ -172,7 +172,7 @@ part_terms_printable e d ts over printable h k x l =
 
 -- ---- saturations that name their covers
 
-same_length : (es : List Entry) (ds : List TreeClause) (bs : List By) → ((k : ℕ) → ShowsAt es (slice_get ds k) (slice_get bs k)) → length bs ≡ length ds
+same_length : (es : List Entry) (ds : List TreeClause) (bs : List By) → ((k : ℕ) → JustifiesAt es (slice_get ds k) (slice_get bs k)) → length bs ≡ length ds
 same_length es [] [] h = refl
 same_length es [] (b ∷ bs) h = absurd (h 0)
 same_length es (d ∷ ds) [] h = absurd (h 0)
@@ -201,13 +201,13 @@ module _ (f : ℕ) (c : Covered) (named : IsNamed c) (p : IsPrintable f (saturat
   shown_printable : (b : By) → b ∈ c.shown → IsPrintableBy b
   shown_printable b i =
       let (k, at) = in_slice_get b c.shown i in
-      go k (slice_get (with_axioms base.inputs) k) refl b (transport (λ (o : Option By). ShowsAt base.members (slice_get (with_axioms base.inputs) k) o) at (named (Input (suc k))))
+      go k (slice_get (with_axioms base.inputs) k) refl b (transport (λ (o : Option By). JustifiesAt base.members (slice_get (with_axioms base.inputs) k) o) at (named (Input (suc k))))
     where
-      go : (k : ℕ) (o : Option TreeClause) → slice_get (with_axioms base.inputs) k ≡ o → (x : By) → ShowsAt base.members (slice_get (with_axioms base.inputs) k) (Some x) → IsPrintableBy x
-      go k None e x h = absurd (transport (λ (o : Option TreeClause). ShowsAt base.members o (Some x)) e h)
-      go k (Some d) e x h = by x (transport (λ (o : Option TreeClause). ShowsAt base.members o (Some x)) e h)
+      go : (k : ℕ) (o : Option TreeClause) → slice_get (with_axioms base.inputs) k ≡ o → (x : By) → JustifiesAt base.members (slice_get (with_axioms base.inputs) k) (Some x) → IsPrintableBy x
+      go k None e x h = absurd (transport (λ (o : Option TreeClause). JustifiesAt base.members o (Some x)) e h)
+      go k (Some d) e x h = by x (transport (λ (o : Option TreeClause). JustifiesAt base.members o (Some x)) e h)
         where
-          by : (y : By) → Shows base.members d y → IsPrintableBy y
+          by : (y : By) → Justifies base.members d y → IsPrintableBy y
           by by_tautology z = tt
           by (by_variant j) z = tt
           by (by_part j ts) (x, here, q) =
