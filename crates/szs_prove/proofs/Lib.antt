@@ -10,7 +10,6 @@ pub mod FirstFunctions
 pub mod Loaded
 pub mod Proved
 pub mod Refused
-mod Refused
 pub mod Situated
 pub mod TakenVerdicts
 pub mod VerdictTexts

@@ -172,8 +172,8 @@ record IsSplit (fits : Problem → Type 0) (bars : ReasonRelation) : Type 0 wher
   once : (p : Problem) (r s : Reason) → bars p r → bars p s → r ≡ s
 
 module _ (one : LoadsOne) (fits : Problem → Type 0) (bars : ReasonRelation) (split : IsSplit fits bars) (files : List NamedFile) (file : List ℕ) (root : Option (List ℕ)) where
-  not_barred : (p q : Problem) (r : Reason) → Loads files file root p → fits p → Loads files file root q → bars q r → ⊥
-  not_barred p q r h fit k barred = split.apart p r fit (subst (λ (x : Problem). bars x r) (one.problems files file root q p k h) barred)
+  fits_unbarred : (p q : Problem) (r : Reason) → Loads files file root p → fits p → Loads files file root q → bars q r → ⊥
+  fits_unbarred p q r h fit k barred = split.apart p r fit (subst (λ (x : Problem). bars x r) (one.problems files file root q p k h) barred)
 
   same_reason : (p q : Problem) (r s : Reason) → Loads files file root p → bars p r → Loads files file root q → bars q s → r ≡ s
   same_reason p q r s h first k other = split.once p r s first (subst (λ (x : Problem). bars x s) (one.problems files file root q p k h) other)
@@ -181,9 +181,9 @@ module _ (one : LoadsOne) (fits : Problem → Type 0) (bars : ReasonRelation) (s
   one_fitting : (s t : Result Problem Refusal) → IsFitting fits bars files file root s → IsFitting fits bars files file root t → s ≡ t
   one_fitting (Ok p) (Ok q) h k = ap Ok (one.problems files file root p q h.0 k.0)
   one_fitting (Ok p) (Err (Load e)) h k = absurd (one.apart files file root p e h.0 k)
-  one_fitting (Ok p) (Err (Unanswered r)) h k = absurd (not_barred p k.0 r h.0 h.1 k.1 k.2)
+  one_fitting (Ok p) (Err (Unanswered r)) h k = absurd (fits_unbarred p k.0 r h.0 h.1 k.1 k.2)
   one_fitting (Err (Load e)) (Ok p) h k = absurd (one.apart files file root p e k.0 h)
-  one_fitting (Err (Unanswered r)) (Ok p) h k = absurd (not_barred p h.0 r k.0 k.1 h.1 h.2)
+  one_fitting (Err (Unanswered r)) (Ok p) h k = absurd (fits_unbarred p h.0 r k.0 k.1 h.1 h.2)
   one_fitting (Err (Load e)) (Err (Load f)) h k = ap (λ (x : LoadError). Err (Load x)) (one.refusals files file root e f h k)
   one_fitting (Err (Load e)) (Err (Unanswered r)) h k = absurd (one.apart files file root k.0 e k.1 h)
   one_fitting (Err (Unanswered r)) (Err (Load e)) h k = absurd (one.apart files file root h.0 e h.1 k)

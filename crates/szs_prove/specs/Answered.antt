@@ -68,7 +68,7 @@ use Rattle.dimacs_front.specs.declared.error.DimacsError.TheVariants as fault
 use Rattle.dimacs_front.specs.declared.file.SatError.TheVariants as bar
 use Rattle.outside_io.specs.declared.notices.Status.TheVariants as status
 use Rattle.szs_prove.specs.declared.exit.Exit.TheVariants as end
-use Rattle.szs_prove.specs.declared.refusal.Reason.TheVariants as no
+use Rattle.szs_prove.specs.declared.refusal.Reason.TheVariants as reason
 use Rattle.szs_prove.specs.declared.refusal.Refusal.TheVariants as why
 
 -- ---- what is told of each answer, and how the program ends with it
@@ -320,7 +320,7 @@ pub record WritesNumbers (words : List (List ℕ)) (files : Option (List NamedFi
   pub wanted : ℕ
   pub asked : IsAsked words (prove file root budget)
   pub stopped : IsOutOfBudget files file root budget left wanted
-  pub written : Appends old new (refusal_text file (why.Unanswered (no.OutOfBudget budget left wanted)))
+  pub written : Appends old new (refusal_text file (why.Unanswered (reason.OutOfBudget budget left wanted)))
 
 -- a question about a certificate, and the problem of another file
 abbrev pub OfCertificate : Type 0
@@ -474,7 +474,7 @@ WantsOfProblem (Err e) exit = exit ≡ end.Refused
 abbrev pub IsFitting : (Problem → Type 0) → ReasonRelation → List NamedFile → List ℕ → Option (List ℕ) → Result Problem Refusal → Type 0
 IsFitting fits bars files file root (Ok p) = Loads files file root p × fits p
 IsFitting fits bars files file root (Err (why.Load e)) = Refuses files file root e
-IsFitting fits bars files file root (Err (why.Unanswered reason)) = (p : Problem) × Loads files file root p × bars p reason
+IsFitting fits bars files file root (Err (why.Unanswered given)) = (p : Problem) × Loads files file root p × bars p given
 IsFitting fits bars files file root (Err why.Memory) = ⊥
 
 -- its tables over so many elements are not too large

@@ -113,12 +113,12 @@ reason_line (reason.Functions clause) = functions_line clause
 
 abbrev pub status_of : Refusal → Status
 status_of (why.Load e) = load_status e
-status_of (why.Unanswered no) = reason_status no
+status_of (why.Unanswered given) = reason_status given
 status_of why.Memory = status.MemoryOut
 
 abbrev pub reason_of : Refusal → List ℕ
 reason_of (why.Load e) = load_reason e
-reason_of (why.Unanswered no) = reason_line no
+reason_of (why.Unanswered given) = reason_line given
 reason_of why.Memory = []
 
 abbrev pub refusal_text : List ℕ → Refusal → List ℕ
