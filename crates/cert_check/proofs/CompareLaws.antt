@@ -1,6 +1,6 @@
 -- Covers that are compared with what is due.
 use Rattle.std.proofs.Common.{◌≡◌, ◌↔◌, ℕ, suc, ◌<◌, List, [], ◌∷◌, length, map, get_or, Bool, true, false, Option, None, Some, refl, ap, sym, ◌∙◌, subst}
-use Rattle.std.specs.Prelude.{IsTrue, slice_get, option_map}
+use Rattle.std.specs.Prelude.{All, IsTrue, slice_get, option_map}
 use Rattle.std.proofs.lemmas.List.{length-map}
 use Rattle.std.proofs.lemmas.List.Elements.{All-cons, All-head, All-nil}
 use Rattle.std.proofs.lemmas.Option.{slice_get-map, slice_get-get_or, slice_get_within, same_Some}
@@ -39,7 +39,7 @@ abbrev first_or : format.By → List format.By → format.By
 first_or d [] = d
 first_or d (b ∷ bs) = b
 
-by_same : (f g : Forest) → Extends f g → (b : By) → IsWholeBy f b → by_of g b ≡ by_of f b
+pub by_same : (f g : Forest) → Extends f g → (b : By) → IsWholeBy f b → by_of g b ≡ by_of f b
 by_same f g grown b whole = ap (first_or (by_of f b)) (bys_same f g grown (b ∷ []) (All-cons (IsWholeBy f) b [] whole (All-nil (IsWholeBy f))))
 
 pub by_later : (f g : Forest) → Extends f g → (b : By) → IsWholeBy f b → IsWholeBy g b
@@ -86,11 +86,14 @@ pub instance_canonical : (f g : Forest) → Extends f g → (es : List Binding) 
 instance_canonical f g grown es x c d ids bindings law =
     (clause_in f g es x c d bindings (λ s resolved. (clause_of_extends f g grown d ids, clause_extends f g grown d ids ∙ (law s resolved).0 refl))).1
 
+pub cover_at : (f : Forest) (vs : List Cover) → All (IsWholeCover f) vs → (place : ℕ) (v : Cover) → slice_get vs place ≡ Some v → IsWholeCover f v
+cover_at f vs whole place v at =
+    let within = slice_get_within vs place v at in
+    let same : get_or vs place v ≡ v = same_Some (get_or vs place v) v (sym (slice_get-get_or vs place v within) ∙ at) in
+    subst (IsWholeCover f) same (whole place v within)
+
 pub whole_cover_at : (c : Covered) → IsWholeCovered c → (place : ℕ) (v : Cover) → slice_get c.covers place ≡ Some v → IsWholeCover c.cert.base.bank v
-whole_cover_at c whole place v at =
-    let within = slice_get_within c.covers place v at in
-    let same : get_or c.covers place v ≡ v = same_Some (get_or c.covers place v) v (sym (slice_get-get_or c.covers place v within) ∙ at) in
-    subst (IsWholeCover c.cert.base.bank) same (whole.covers place v within)
+whole_cover_at c whole = cover_at c.cert.base.bank c.covers whole.covers
 
 side_from : (x y : Side) → side_of x ≡ side_of y → x ≡ y
 side_from Left Left e = refl

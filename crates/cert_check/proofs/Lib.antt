@@ -33,3 +33,4 @@ pub mod ShownSteps
 pub mod MadePairs
 pub mod ReadyLaws
 pub mod SourceTerms
+pub mod SeenLaws

@@ -35,7 +35,7 @@ pub struct Progress {
 }
 
 // Whether the cover's clause is the instance of the side's member under the bindings, and what it names covers it.
-fn is_named(
+pub fn is_named(
     alloc: Global,
     cert: &mut Saturation,
     rooms: &mut PairRoom,

@@ -22,6 +22,7 @@ mod places;
 pub mod refutation;
 mod rooms;
 pub mod saturation;
+mod seen;
 mod shown;
 mod source;
 mod steps;
