@@ -9,7 +9,7 @@ use std::alloc::Global;
 use term_bank::{Bank, TermId};
 use unify_core::{Bindings, Bound, Side};
 
-// So many slots at least and at most, and so many for each member in between.
+// How many slots there are at least and at most, and for each member in between.
 const LEAST: usize = 64;
 
 const MOST: usize = 65_536;
