@@ -1,5 +1,6 @@
 -- The first entries of a run, made of clauses in its bank.
 use Rattle.std.specs.Prelude.{◌≡◌, ℕ, [], List, length}
+use Rattle.inst_logic.specs.declared.signed.Signed.{Signed}
 use Rattle.inst_logic.specs.Clauses.{TreeClause}
 use Rattle.inst_machine.specs.Machine.{IsFirst}
 use Rattle.term_bank.specs.Forest.{Extends}

@@ -1,6 +1,6 @@
 // The solves of a run while it lasts, in few bytes each. With the origins of the entries they tell all events: a list of events
 // takes more than twice as much, and each solve in it a piece of memory of its own, so one is made only at the end.
-ghost use Rattle.std.specs.Prelude.{◌≡◌, ◌≤◌, ◌++◌, ◌∷◌, [], length, slice_range, IfOk, OnOk};
+ghost use Rattle.std.specs.Prelude.{◌≡◌, ◌≤◌, ◌++◌, ◌∷◌, [], drop, length, slice_range, IfOk, OnOk};
 ghost use Rattle.instgen_loop.specs.declared.event.Event.TheVariants.{Solved};
 ghost use Rattle.instgen_loop.specs.Logs.{no_solves, with_solve};
 ghost use Rattle.instgen_loop.specs.Marks.{AreInOrder, IsLogOf, events_from, events_of, inferred, origins_of, told_by};
@@ -59,6 +59,16 @@ fn add_entries(
     Ok(())
 }
 
+// Adds the events of all entries after the first `done`.
+fn add_rest(events: &mut Vec<Event>, clauses: &Origins, done: usize) -> Result<(), Memory>
+    requires { done ≤ length (origins_of clauses.now.entries) }
+    ensures { OnOk result (events.new.items ≡ events.old.items ++ inferred (drop done (origins_of clauses.now.entries))) }
+{
+    let count = clauses.len();
+    add_entries(events, clauses, done, count)?;
+    Ok(())
+}
+
 // The events of the marks, each after the entries that there were before it.
 fn events_at(
     alloc: Global,
@@ -78,7 +88,7 @@ fn events_at(
         flipped = mark.flipped as usize;
         done = mark.entries as usize;
     }
-    add_entries(&mut events, clauses, done, clauses.len())?;
+    add_rest(&mut events, clauses, done)?;
     Ok(Journal::from(events))
 }
 
