@@ -17,7 +17,7 @@ use Rattle.engine_laws.proofs.WorkedPairs.{placed_once, pair_stays_worked, worke
 use Rattle.term_bank.specs.Forest.{clause_at, tree_at}
 use Rattle.cert_values.specs.Values.{origin_of}
 use Rattle.instgen_loop.specs.declared.state.Run.{Run}
-use Rattle.instgen_loop.specs.declared.state.Held as code
+use Rattle.instgen_loop.specs.declared.premises.Premises.{Premises}
 use Rattle.instgen_loop.specs.Clauses.{Item, AreEntries, entries_in}
 use Rattle.instgen_loop.specs.Loops.{items, held_in, held_of, Goes, IsSelectedLiteral, IsSelectedTree, IsSideWorked, IsPairWorked}
 use Rattle.instgen_loop.specs.Alike.{IsWorkedWith, AreAlike, IsDoneWith}
@@ -46,8 +46,8 @@ module _ {S I C : Type 0} (r : Run S I C) (n : ℕ) (l : Signed ℕ) (h : IsSele
 none_contained : (h : Held) → Contains [] h → ⊥
 none_contained h i = contains_in h [] i
 
-none_held : (hs : List code.Held) (h : Held) → hs ≡ [] → Contains (held_in hs) h → ⊥
-none_held hs h e i = none_contained h (transport (λ (x : List code.Held). Contains (held_in x) h) e i)
+none_held : (hs : List Premises) (h : Held) → hs ≡ [] → Contains (held_in hs) h → ⊥
+none_held hs h e i = none_contained h (transport (λ (x : List Premises). Contains (held_in x) h) e i)
 
 -- a partner in the place of one with the same literal selected
 pub worked_alike : {S I C : Type 0} (r : Run S I C) (i j k : ℕ) → r.held.items ≡ [] → AreAlike r k j → IsWorkedWith r i k → IsWorkedWith r i j

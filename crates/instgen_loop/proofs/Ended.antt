@@ -10,13 +10,13 @@ use Rattle.term_bank.specs.Forest.{Forest, IsClauseOf}
 use Rattle.term_index.specs.Pairs.{Pair}
 use Rattle.instgen_loop.specs.declared.start.Given.{Given}
 use Rattle.instgen_loop.specs.declared.state.Run.{Run}
-use Rattle.instgen_loop.specs.declared.state.Held as code
+use Rattle.instgen_loop.specs.declared.premises.Premises.{Premises}
 use Rattle.instgen_loop.specs.declared.queue.Partners.{Partners}
 use Rattle.instgen_loop.specs.Clauses.{Item, entries_in}
 use Rattle.instgen_loop.specs.Deciding.{IsSomeConclusion}
 use Rattle.instgen_loop.specs.Ending.{IsAtRest}
 use Rattle.instgen_loop.specs.Loops.{items, held_in, held_of, IsSafe}
-use Rattle.instgen_loop.specs.Running.{entries_of, IsSolvedFor, Reads}
+use Rattle.instgen_loop.specs.Running.{entries_of, events_so_far, IsSolvedFor, Reads}
 use Rattle.instgen_loop.specs.Starting.{IsOfProblem}
 use Rattle.instgen_loop.specs.Tended.{AreTended, indexed_of}
 use Rattle.instgen_loop.proofs.FreshRuns.{problem_later}
@@ -29,7 +29,7 @@ pub held_conclude : {S I C : Type 0} (atoms : S → ℕ) (added : S → List (Li
 held_conclude atoms added r cs budget (bot, v, h) = go r.left refl
   where
     go : (o : Option ℕ) → r.left ≡ o → All (IsSomeConclusion (entries_of r)) (held_of r)
-    go None e = transport (λ (hs : List code.Held). All (IsSomeConclusion (entries_of r)) (held_in hs)) (sym (h.none_held e)) (All-nil (IsSomeConclusion (entries_of r)))
+    go None e = transport (λ (hs : List Premises). All (IsSomeConclusion (entries_of r)) (held_in hs)) (sym (h.none_held e)) (All-nil (IsSomeConclusion (entries_of r)))
     go (Some k) e = in_all (IsSomeConclusion (entries_of r)) (held_of r) (λ x i. let b = all_in (IsHeldBack (entries_of r) k) (held_of r) (h.held k e) x i in (b.clause, b.concluded))
 
 module _ {S I C : Type 0} (old new : Run S I C) (reads : Reads old new) where
@@ -58,5 +58,5 @@ module _ {S I C : Type 0} (old new : Run S I C) (reads : Reads old new) where
   pub problem_read : (g : Given) (clauses : List TreeClause) → IsOfProblem old g clauses → IsOfProblem new g clauses
   problem_read g clauses h = problem_later old new g clauses reads.bank (ap (λ (r : Run S I C). r.ground.abstraction.bot) reads.rest) h
 
-  pub journal_read : new.journal ≡ old.journal
-  journal_read = ap (λ (r : Run S I C). r.journal) reads.rest
+  pub events_read : events_so_far new ≡ events_so_far old
+  events_read = ap (λ (r : Run S I C). events_so_far r) reads.rest

@@ -31,7 +31,10 @@ use Rattle.term_bank.specs.Forest.{Forest}
 use Rattle.term_index.specs.Pairs.{Pair}
 use Rattle.cert_values.specs.declared.certificate.Saturation.{Saturation}
 use Rattle.cert_values.specs.Values.{entry_of, saturation_of}
-use Rattle.instgen_loop.specs.declared.event.Event.{Event}
+use Rattle.instgen_loop.specs.declared.ending.Ending.TheVariants.{Saturated}
+use Rattle.instgen_loop.specs.declared.finish.SettledRun.{SettledRun}
+use Rattle.instgen_loop.specs.Endings.{IsEndingAfter}
+use Rattle.instgen_loop.specs.Logs.{Log}
 use Rattle.instgen_loop.specs.declared.start.Given.{Given}
 use Rattle.instgen_loop.specs.declared.state.Run.{Run}
 use Rattle.instgen_loop.specs.declared.queue.Partners.{Partners}
@@ -39,7 +42,7 @@ use Rattle.instgen_loop.specs.Ending.{IsAtRest, settled_from, saturation_from}
 use Rattle.instgen_loop.specs.Loops.{items, held_of}
 use Rattle.instgen_loop.specs.Outcomes.{IsSelectedRun, IsSaturatedRun}
 use Rattle.instgen_loop.specs.Refuting.{member_of}
-use Rattle.instgen_loop.specs.Running.{entries_of, state_of, event_in, IsRunning, IsSolvedFor, saturation_at}
+use Rattle.instgen_loop.specs.Running.{entries_of, state_of, event_in, IsRunning, IsSolvedFor, saturation_at, events_so_far}
 use Rattle.instgen_loop.specs.Starting.{IsOfProblem}
 use Rattle.instgen_loop.proofs.PrintedEntries.{entries_printable}
 use Rattle.engine_laws.proofs.Printed.{all_formed, axiom_printable}
@@ -89,7 +92,7 @@ module _ {S I C : Type 0} (atoms : S → ℕ) (added : S → List (List (Signed 
   pub long : length r.selection.places ≡ length (entries_of r)
   long = rest.whole ∙ sym (length_map member_of (items r)) ∙ sym (length_map (entry_of f) (map member_of (items r))) ∙ ap length members_same
 
-  pub selected_run : IsSelectedRun clauses names (saturation_from names (settled_from r g)) r.journal bot t
+  pub selected_run : IsSelectedRun clauses names (saturation_from names (settled_from r g)) (events_so_far r) bot t
   selected_run = record {
     run = record {
       inputs = problem.inputs.same;
@@ -116,12 +119,12 @@ module _ {S I C : Type 0} (atoms : S → ℕ) (added : S → List (List (Signed 
         named = count;
         names = readable;
         axioms = in_all IsPrintableClause (equality_axioms clauses) (axiom_printable clauses printable);
-        members = entries_printable f (items r) bot clauses (map (event_in f) r.journal) t rest.safe.entries h.replays refl printable;
+        members = entries_printable f (items r) bot clauses (map (event_in f) (events_so_far r)) t rest.safe.entries h.replays refl printable;
       };
       placed = long;
     }
 
-    pub saturated_run : IsSaturatedRun clauses names (saturation_from names (settled_from r g)) r.journal
+    pub saturated_run : IsSaturatedRun clauses names (saturation_from names (settled_from r g)) (events_so_far r)
     saturated_run = record {
       bot = bot;
       state = t;
@@ -138,9 +141,9 @@ own_constant atoms added r constant cs budget v h = transport (λ x. IsRunning a
 
 pub saturated_outcome : {S I C : Type 0} (atoms : S → ℕ) (added : S → List (List (Signed ℕ))) (pairs : I → List Pair) (fits : Forest → I → Type 0) (r : Run S I C) (p : Partners I C) (g : Given) (clauses : List TreeClause) (names : List (List ℕ))
     (budget : ℕ) → IsAtRest atoms pairs fits r p → IsSolvedFor atoms added r (with_axioms clauses) budget → IsOfProblem r g clauses → All IsPrintableClause clauses → length names ≡ length clauses
-    → All (λ n. IsTrue (is_readable_name n)) names → All (IsDecided (entries_of r) r.selection.places []) (held_of r) → (cert : Saturation) (journal : List Event) → cert ≡ saturation_from names (settled_from r g) → journal ≡ r.journal
-    → IsSaturatedRun clauses names cert journal
-saturated_outcome atoms added pairs fits r p g clauses names budget rest (constant, v, h) problem printable count readable decided cert journal e q =
-    let run : IsSaturatedRun clauses names (saturation_from names (settled_from r g)) r.journal =
-    saturated_run atoms added pairs fits r p g clauses names budget v rest (own_constant atoms added r constant (with_axioms clauses) budget v h) problem printable count readable decided in
-    transport (λ c. IsSaturatedRun clauses names c journal) (sym e) (transport (IsSaturatedRun clauses names (saturation_from names (settled_from r g))) (sym q) run)
+    → All (λ n. IsTrue (is_readable_name n)) names → All (IsDecided (entries_of r) r.selection.places []) (held_of r) → (state : SettledRun) (log : Log) → state ≡ settled_from r g → log ≡ r.log
+    → IsEndingAfter clauses names budget (Saturated state) log
+saturated_outcome atoms added pairs fits r p g clauses names budget rest (constant, v, h) problem printable count readable decided state log e q =
+    let run : IsEndingAfter clauses names budget (Saturated (settled_from r g)) r.log =
+    (h.logged, saturated_run atoms added pairs fits r p g clauses names budget v rest (own_constant atoms added r constant (with_axioms clauses) budget v h) problem printable count readable decided) in
+    transport (λ (x : SettledRun). IsEndingAfter clauses names budget (Saturated x) log) (sym e) (transport (IsEndingAfter clauses names budget (Saturated (settled_from r g))) (sym q) run)

@@ -30,9 +30,11 @@ use Rattle.cert_values.specs.Wholes.{IsWholeClause}
 use Rattle.instgen_loop.specs.declared.state.Run.{Run}
 use Rattle.instgen_loop.specs.Clauses.{Item, AreEntries, entries_in, clauses_in}
 use Rattle.instgen_loop.specs.Grounds.{IsLinked}
-use Rattle.instgen_loop.specs.Loops.{items, after, KeepsLink}
+use Rattle.instgen_loop.specs.Loops.{items, after, KeepsLink, Appends}
 use Rattle.instgen_loop.specs.Running.{entries_of}
-use Rattle.instgen_loop.specs.FirstEntries.{MakesEntry, IsStarted}
+use Rattle.instgen_loop.specs.Marks.{inferred, origins_of}
+use Rattle.instgen_loop.proofs.Logged.{input_told}
+use Rattle.instgen_loop.specs.FirstEntries.{IsStarted}
 use Rattle.instgen_loop.specs.Starting.{AreGiven}
 use Rattle.instgen_loop.proofs.Grown.{whole_kept, entries_stay}
 use Rattle.instgen_loop.proofs.Works.{after_more}
@@ -92,10 +94,11 @@ module _ {S I C : Type 0} (atoms : S → ℕ) (added : S → List (List (Signed 
     valuation = h.valuation;
     selection = h.selection;
     held = h.held;
-    journal = h.journal;
+    log = h.log;
+    inputs = h.inputs;
   }
 
-  pub takes : (old new : Run S I C) (d : List (Signed ℕ)) (k : ℕ) (cs : List TreeClause) → MakesEntry old new d (Input k) → KeepsLink atoms added old new → AreEntries old.entries.bank (items old)
+  pub takes : (old new : Run S I C) (d : List (Signed ℕ)) (k : ℕ) (cs : List TreeClause) → Appends old new d (Input k) → KeepsLink atoms added old new → AreEntries old.entries.bank (items old)
       → IsClauseOf old.entries.bank d → IsCanonical (clause_at old.entries.bank d) → ¬ IsTautology (clause_at old.entries.bank d)
       → ¬ Contains (entry_clauses (entries_of old)) (canonical_form (clause_at old.entries.bank d)) → k ≡ length cs + 1
       → IsStarted atoms added old cs → IsStarted atoms added new (cs ++ clause_at old.entries.bank d ∷ [])
@@ -106,7 +109,8 @@ module _ {S I C : Type 0} (atoms : S → ℕ) (added : S → List (List (Signed 
     valuation = m.valuation ∙ h.valuation;
     selection = m.selection ∙ h.selection;
     held = m.held ∙ h.held;
-    journal = m.journal ∙ h.journal;
+    log = m.log ∙ h.log;
+    inputs = ap (λ (es : List Item). inferred (origins_of es)) m.entry ∙ input_told (items old) d k ∙ h.inputs;
   }
     where
       longer : length (items new) ≡ length (items old) + 1

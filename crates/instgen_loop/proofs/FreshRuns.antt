@@ -27,11 +27,13 @@ use Rattle.ground_abs.specs.Abstracts.{AreAtomsIn, AreNotesIn, atoms_in}
 use Rattle.instgen_select.specs.Queues.{numbers, Waiting}
 use Rattle.instgen_loop.specs.declared.event.Event.{Event}
 use Rattle.instgen_loop.specs.declared.state.Run.{Run}
-use Rattle.instgen_loop.specs.declared.state.Held as code
+use Rattle.instgen_loop.specs.declared.premises.Premises.{Premises}
 use Rattle.instgen_loop.specs.Clauses.{Item, AreEntries, AreFirsts, entries_in, clauses_in}
 use Rattle.instgen_loop.specs.Grounds.{IsUsed}
 use Rattle.instgen_loop.specs.Loops.{items, after, held_in, IsSafe}
-use Rattle.instgen_loop.specs.Running.{IsRunning, IsRunningFor, IsRunningWith, IsEventOf, event_in, entries_of, state_of}
+use Rattle.instgen_loop.specs.Logs.{Log}
+use Rattle.instgen_loop.specs.Marks.{inferred, origins_of, events_of, IsLogOf}
+use Rattle.instgen_loop.specs.Running.{IsRunning, IsRunningFor, IsRunningWith, IsEventOf, event_in, entries_of, events_so_far, state_of}
 use Rattle.instgen_loop.specs.Selections.{Placing}
 use Rattle.instgen_loop.specs.FirstEntries.{IsStarted}
 use Rattle.instgen_loop.specs.Starting.{IsFresh, IsAllowed, IsOfProblem}
@@ -61,7 +63,7 @@ module _ {S I C : Type 0} (atoms : S → ℕ) (added : S → List (List (Signed 
     selection = h.selection;
     queue = h.queue;
     held = h.held;
-    journal = h.journal;
+    log = h.log;
     known = h.known;
   }
 
@@ -117,7 +119,8 @@ module _ {S I C : Type 0} (atoms : S → ℕ) (added : S → List (List (Signed 
     valuation = h.valuation;
     selection = h.selection;
     held = h.held;
-    journal = h.journal;
+    log = h.log;
+    inputs = ap (λ (es : List Item). inferred (origins_of es)) h.entries;
   }
 
 -- The budget at first
@@ -150,8 +153,9 @@ known r clauses budget h false e = record {
 started_runs : {S I C : Type 0} (atoms : S → ℕ) (added : S → List (List (Signed ℕ))) (r : Run S I C) (clauses : List TreeClause) (budget : ℕ) → IsStarted atoms added r (with_axioms clauses)
     → IsAllowed r clauses budget → IsRunning atoms added r r.ground.abstraction.bot (with_axioms clauses) budget [] false
 started_runs atoms added r clauses budget h allowed = record {
-  events = transport (All (IsEventOf r.entries.bank)) (sym h.journal) (All-nil (IsEventOf r.entries.bank));
-  replays = transport (λ (es : List Event). Replays r.ground.abstraction.bot (with_axioms clauses) (map (event_in r.entries.bank) es) (state_of r [] false)) (sym h.journal) (replay_begins r.ground.abstraction.bot (with_axioms clauses) (entries_of r) h.first);
+  logged = transport (λ (l : Log). IsLogOf l (items r)) (sym h.log) (refl, omega arith);
+  events = transport (All (IsEventOf r.entries.bank)) (sym nothing) (All-nil (IsEventOf r.entries.bank));
+  replays = transport (λ (es : List Event). Replays r.ground.abstraction.bot (with_axioms clauses) (map (event_in r.entries.bank) es) (state_of r [] false)) (sym nothing) (replay_begins r.ground.abstraction.bot (with_axioms clauses) (entries_of r) h.first);
   linked = h.linked;
   bits = λ a. (
     λ i. absurd (contains_in a [] i),
@@ -166,9 +170,12 @@ started_runs atoms added r clauses budget h allowed = record {
   free = λ e. with_axioms_function_free clauses (first.free e);
   budgeted = λ k e. not_free clauses (equality_axioms clauses) (first.budgeted k e);
   none_held = λ e. h.held;
-  held = λ k e. transport (λ (hs : List code.Held). All (IsHeldBack (entries_of r) k) (held_in hs)) (sym h.held) (All-nil (IsHeldBack (entries_of r) k));
+  held = λ k e. transport (λ (hs : List Premises). All (IsHeldBack (entries_of r) k) (held_in hs)) (sym h.held) (All-nil (IsHeldBack (entries_of r) k));
 }
   where
+    nothing : events_so_far r ≡ []
+    nothing = ap (λ (l : Log). events_of l (items r)) h.log ∙ h.inputs
+
     first : IsKnown r.left clauses budget
     first = known r clauses budget allowed (is_function_free clauses) refl
 
@@ -195,9 +202,9 @@ same_constant atoms added r bot cs budget (v, b, h) = h.linked.constant
 
 -- at most one entry more was appended than the budget has symbols, where there is one
 pub appended_within : {S I C : Type 0} (atoms : S → ℕ) (added : S → List (List (Signed ℕ))) (r : Run S I C) (clauses : List TreeClause) (budget : ℕ) → IsRunningFor atoms added r (with_axioms clauses) budget
-    → IsFalse (is_function_free clauses) → appended_count r.journal ≤ suc budget
+    → IsFalse (is_function_free clauses) → appended_count (events_so_far r) ≤ suc budget
 appended_within atoms added r clauses budget (bot, v, b, h) functions = go r.left refl
   where
-    go : (o : Option ℕ) → r.left ≡ o → appended_count r.journal ≤ suc budget
+    go : (o : Option ℕ) → r.left ≡ o → appended_count (events_so_far r) ≤ suc budget
     go None e = let f = h.free e in let n = not_free clauses (equality_axioms clauses) functions in absurd cc
     go (Some k) e = appended_bounded atoms added r bot (with_axioms clauses) budget v b h k e

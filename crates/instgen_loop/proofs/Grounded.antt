@@ -100,6 +100,7 @@ module _ {S I C : Type 0} (atoms : S → ℕ) (added : S → List (List (Signed 
   pub asked_running : (bot : Sym) (cs : List TreeClause) (budget : ℕ) (v : List Tree) (b : Bool) → IsRunning atoms added r bot cs budget v b → IsRunning atoms added asked bot cs budget v b
   asked_running bot cs budget v b h = record {
     events = h.events;
+    logged = h.logged;
     replays = h.replays;
     linked = record { constant = h.linked.constant; fits = h.linked.fits; count = same_atoms ∙ h.linked.count; given = same_added ∙ h.linked.given; same = h.linked.same; used = h.linked.used };
     bits = h.bits;

@@ -54,6 +54,7 @@ same_atom r n a l h k =
 pub running_rebound : {S I C : Type 0} (atoms : S → ℕ) (added : S → List (List (Signed ℕ))) (r : Run S I C) (b : Bound_list) → KeepsRunning atoms added r (record r { bindings = b })
 running_rebound atoms added r b bot cs budget v h = record {
   events = h.events;
+  logged = h.logged;
   replays = h.replays;
   linked = record { constant = h.linked.constant; fits = h.linked.fits; count = h.linked.count; given = h.linked.given; same = h.linked.same; used = h.linked.used };
   bits = h.bits;
@@ -70,6 +71,7 @@ running_rebound atoms added r b bot cs budget v h = record {
 pub running_requeued : {S I C : Type 0} (atoms : S → ℕ) (added : S → List (List (Signed ℕ))) (r : Run S I C) (q : Passive_list) → KeepsRunning atoms added r (record r { queue = q })
 running_requeued atoms added r q bot cs budget v h = record {
   events = h.events;
+  logged = h.logged;
   replays = h.replays;
   linked = record { constant = h.linked.constant; fits = h.linked.fits; count = h.linked.count; given = h.linked.given; same = h.linked.same; used = h.linked.used };
   bits = h.bits;

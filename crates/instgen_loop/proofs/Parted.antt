@@ -140,14 +140,16 @@ appends_after_read {S} {I} {C} old mid new l m d o reads same left h = go (trans
     go k = record {
       bank = extends_trans old.entries.bank mid.entries.bank new.entries.bank reads.bank k.bank;
       entry = k.entry;
-      event = k.event;
+      log = k.log;
       waits = k.waits;
       ready = k.ready;
       valuation = k.valuation;
+      bot = k.bot;
       atoms = k.atoms;
       literals = k.literals;
       selection = k.selection;
       held = k.held;
       left = k.left ∙ left;
       bindings = k.bindings ∙ same;
+      longest = k.longest;
     }

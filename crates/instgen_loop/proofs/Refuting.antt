@@ -40,18 +40,20 @@ use Rattle.cert_values.specs.declared.member.Origin.{Origin}
 use Rattle.cert_values.specs.declared.member.Origin.TheVariants.{Input, Inst, Lemma}
 use Rattle.cert_values.specs.Values.{line_of, origin_of}
 use Rattle.cert_values.specs.Wholes.{IsWholeClause}
+use Rattle.instgen_loop.specs.declared.ending.Ending.TheVariants.{Refuted}
 use Rattle.instgen_loop.specs.declared.event.Event.{Event}
+use Rattle.instgen_loop.specs.Logs.{Log}
 use Rattle.instgen_loop.specs.declared.refuted.RefutedRun.{RefutedRun}
 use Rattle.instgen_loop.specs.declared.start.Given.{Given}
 use Rattle.instgen_loop.specs.declared.state.Run.{Run}
 use Rattle.instgen_loop.specs.Clauses.{Item, AreEntries, entries_in, clauses_in}
-use Rattle.instgen_loop.specs.Endings.{IsRefuted}
+use Rattle.instgen_loop.specs.Endings.{IsRefuted, IsEndingAfter}
 use Rattle.instgen_loop.specs.Grounds.{IsUsed}
 use Rattle.instgen_loop.specs.Lines.{given_of, given_trees, HasClauses, IsLineIn, AreLinesOf}
 use Rattle.instgen_loop.specs.Loops.{IsSafe}
 use Rattle.instgen_loop.specs.Records.{IsConcluded, AreConcluded, AreRecordsOf}
 use Rattle.instgen_loop.specs.Refuting.{member_of, refuted_from}
-use Rattle.instgen_loop.specs.Running.{event_in, IsEventOf, state_of, IsRunning, IsRunningFor}
+use Rattle.instgen_loop.specs.Running.{event_in, IsEventOf, state_of, IsRunning, IsRunningFor, events_so_far}
 use Rattle.instgen_loop.specs.Starting.{IsOfProblem}
 use Rattle.instgen_loop.proofs.FirstEntries.{given_grown}
 use Rattle.instgen_loop.proofs.Grown.{clauses_kept, entries_kept, entries_stay}
@@ -69,11 +71,11 @@ whole_items f es h = in_all (λ (m : Member). IsWholeClause f m.clause) (map mem
 
 pub refuted_ending : {S I C : Type 0} (atoms : S → ℕ) (added : S → List (List (Signed ℕ))) (pairs : I → List Pair) (fits : Forest → I → Type 0) (r : Run S I C) (g : Given) (clauses : List TreeClause) (names : List (List ℕ))
     (budget : ℕ) (steps : List NumberedStep) → IsSafe atoms pairs fits r → IsRunningFor atoms added r (with_axioms clauses) budget → Refutes (atoms r.ground.solver) (added r.ground.solver) [] [] steps
-    → IsOfProblem r g clauses → All IsPrintableClause clauses → length names ≡ length clauses → All (λ n. IsTrue (is_readable_name n)) names → (x : RefutedRun) (journal : List Event) → x ≡ refuted_from r g steps → journal ≡ r.journal
-    → IsRefuted clauses names x journal
-refuted_ending atoms added pairs fits r g clauses names budget steps safe (constant, v, b, k) refutes problem printable count readable x journal e q =
+    → IsOfProblem r g clauses → All IsPrintableClause clauses → length names ≡ length clauses → All (λ n. IsTrue (is_readable_name n)) names → (x : RefutedRun) (log : Log) → x ≡ refuted_from r g steps → log ≡ r.log
+    → IsEndingAfter clauses names budget (Refuted x) log
+refuted_ending atoms added pairs fits r g clauses names budget steps safe (constant, v, b, k) refutes problem printable count readable x log e q =
     let h : IsRunning atoms added r r.ground.abstraction.bot (with_axioms clauses) budget v b = transport (λ y. IsRunning atoms added r y (with_axioms clauses) budget v b) (sym k.linked.constant) k in
-    let left : IsRefuted clauses names (refuted_from r g steps) r.journal = record {
+    let left : IsRefuted clauses names (refuted_from r g steps) (events_so_far r) = record {
       state = state_of r v b;
       replays = h.replays;
       members = refl;
@@ -94,7 +96,7 @@ refuted_ending atoms added pairs fits r g clauses names budget steps safe (const
       named = count;
       readable = readable;
     } in
-    transport (λ y. IsRefuted clauses names y journal) (sym e) (transport (IsRefuted clauses names (refuted_from r g steps)) (sym q) left)
+    transport (λ (y : RefutedRun). IsEndingAfter clauses names budget (Refuted y) log) (sym e) (transport (IsEndingAfter clauses names budget (Refuted (refuted_from r g steps))) (sym q) (h.logged, left))
 
 -- As the bank grows
 

@@ -47,11 +47,14 @@ use Rattle.unify_core.proofs.Stays.{substitutions_stay}
 use Rattle.instgen_loop.specs.declared.event.Event.{Event}
 use Rattle.instgen_loop.specs.declared.event.Event.TheVariants.{Solved, Inferred}
 use Rattle.instgen_loop.specs.declared.state.Run.{Run}
-use Rattle.instgen_loop.specs.declared.state.Held as code
+use Rattle.instgen_loop.specs.declared.premises.Premises.{Premises}
 use Rattle.instgen_loop.specs.Clauses.{Item, AreEntries, entries_in, clauses_in}
 use Rattle.instgen_loop.specs.Grounds.{IsLinked, IsUsed}
 use Rattle.instgen_loop.specs.Loops.{items, held_in, held_of, Appends, KeepsLink, IsSelectedLiteral}
-use Rattle.instgen_loop.specs.Running.{event_in, IsEventOf, entries_of, state_of, IsRunning, KeepsRunning, Reads, Holds, from_side, MayInfer}
+use Rattle.instgen_loop.specs.Logs.{Log}
+use Rattle.instgen_loop.specs.Marks.{told_by, events_of, IsLogOf}
+use Rattle.instgen_loop.proofs.Logged.{entry_logged, order_after_entry}
+use Rattle.instgen_loop.specs.Running.{event_in, IsEventOf, entries_of, state_of, IsRunning, KeepsRunning, Reads, Holds, from_side, MayInfer, events_so_far}
 use Rattle.term_bank.proofs.Growth.{map_extends}
 use Rattle.term_bank.proofs.Clauses.{clause_extends}
 use Rattle.instgen_loop.proofs.Grown.{clauses_kept, entries_stay}
@@ -117,9 +120,10 @@ linked_read atoms added old new reads entries bot h =
 pub running_read : {S I C : Type 0} (atoms : S → ℕ) (added : S → List (List (Signed ℕ))) (old new : Run S I C) → Reads old new → AreEntries old.entries.bank (items old) → KeepsRunning atoms added old new
 running_read atoms added old new reads entries bot cs budget v h =
     transport (λ r. IsRunning atoms added r bot cs budget v true) (sym reads.rest) (record {
-      events = events_later f g reads.bank old.journal h.events;
-      replays = transport (λ es. Replays bot cs (map (event_in g) old.journal) (record { entries = es; valuation = v; has_solved = true })) (sym es_same)
-          (transport (λ js. Replays bot cs js (state_of old v true)) (sym (events_kept f g reads.bank old.journal (λ j i. all_in (IsEventOf f) old.journal h.events j i))) h.replays);
+      logged = h.logged;
+      events = events_later f g reads.bank (events_so_far old) h.events;
+      replays = transport (λ es. Replays bot cs (map (event_in g) (events_so_far old)) (record { entries = es; valuation = v; has_solved = true })) (sym es_same)
+          (transport (λ js. Replays bot cs js (state_of old v true)) (sym (events_kept f g reads.bank (events_so_far old) (λ j i. all_in (IsEventOf f) (events_so_far old) h.events j i))) h.replays);
       linked = transport (λ r. IsLinked r.entries.bank r.ground (atoms r.ground.solver) (added r.ground.solver) bot (clauses_in r.entries.bank (items r))) reads.rest (linked_read atoms added old new reads entries bot h.linked);
       bits = transport (λ ts. IsValuationOf ts old.ground.valuation v) (sym atoms_same) h.bits;
       width = h.width;
@@ -193,6 +197,7 @@ pub running_held : {S I C : Type 0} (atoms : S → ℕ) (added : S → List (Lis
     → ((k : ℕ) → old.left ≡ Some k → k < clause_size (canonical_form (concluded old side from partner m))) → (k : ℕ) × (old.left ≡ Some k) → KeepsRunning atoms added old new
 running_held atoms added old new side from partner holds m large some bot cs budget v h =
     transport (λ r. IsRunning atoms added r bot cs budget v true) (sym holds.rest) (record {
+      logged = h.logged;
       events = h.events;
       replays = h.replays;
       linked = record { constant = h.linked.constant; fits = h.linked.fits; count = h.linked.count; given = h.linked.given; same = h.linked.same; used = h.linked.used };
@@ -213,7 +218,7 @@ running_held atoms added old new side from partner holds m large some bot cs bud
           }));
     })
   where
-    one : code.Held → Held
+    one : Premises → Held
     one x = record { from = x.from; place = x.place; partner = x.partner; other = x.other }
 
     first : m.0.literals.left_at.place ≡ holds.place
@@ -244,7 +249,7 @@ placed_on es more places n m l = record {
 -- the invariant of a run that appended a clause, where that is a step of the machine for its size
 module _ {S I C : Type 0} (atoms : S → ℕ) (added : S → List (List (Signed ℕ))) (old new : Run S I C) (size : ℕ) (d : List (Signed ℕ)) (o : Origin) (c : TreeClause)
     (entries : AreEntries old.entries.bank (items old)) (appends : Appends (record old { left = option_map (λ k. k - size) old.left }) new d o)
-    (links : KeepsLink atoms added old new) (made : clause_at new.entries.bank d ≡ c)
+    (links : KeepsLink atoms added old new) (made : clause_at new.entries.bank d ≡ c) (told : told_by o ≡ Inferred o ∷ [])
     (steps : (bot : Sym) (v : List Tree) → ArePlacedTrue bot (state_of old v true) old.selection.places
     → machine.IsStep bot (state_of old v true) (machine.inferred (origin_of o)) (record { entries = entries_of old ++ record { clause = c; origin = origin_of o } ∷ []; valuation = v; has_solved = true }))
     (fits : (k : ℕ) → old.left ≡ Some k → k < 2 ^ 64 - 1 → (size ≡ appended_size (origin_of o) c) × (size ≤ k)) where
@@ -264,11 +269,14 @@ module _ {S I C : Type 0} (atoms : S → ℕ) (added : S → List (List (Signed 
       ∙ ap₂ (λ (xs : List Entry) (e : TreeClause). xs ++ record { clause = e; origin = origin_of o } ∷ [])
       (entries_stay f g appends.bank (items old) (λ x i. all_in (λ (x : Item). IsClauseOf f x.0) (items old) entries.ids x i)) made
 
-  journal_now : All (IsEventOf f) old.journal → map (event_in g) new.journal ≡ map (event_in f) old.journal ++ machine.inferred (origin_of o) ∷ []
-  journal_now h =
-      ap (map (event_in g)) appends.event
-      ∙ map_append (event_in g) old.journal (Inferred o ∷ [])
-      ∙ ap (λ xs. xs ++ machine.inferred (origin_of o) ∷ []) (events_kept f g appends.bank old.journal (λ j i. all_in (IsEventOf f) old.journal h j i))
+  events_now : IsLogOf old.log (items old) → events_so_far new ≡ events_so_far old ++ Inferred o ∷ []
+  events_now h = ap₂ events_of appends.log appends.entry ∙ entry_logged old.log (items old) (d, o) h ∙ ap (λ (es : List Event). events_so_far old ++ es) told
+
+  journal_now : IsLogOf old.log (items old) → All (IsEventOf f) (events_so_far old) → map (event_in g) (events_so_far new) ≡ map (event_in f) (events_so_far old) ++ machine.inferred (origin_of o) ∷ []
+  journal_now l h =
+      ap (map (event_in g)) (events_now l)
+      ∙ map_append (event_in g) (events_so_far old) (Inferred o ∷ [])
+      ∙ ap (λ xs. xs ++ machine.inferred (origin_of o) ∷ []) (events_kept f g appends.bank (events_so_far old) (λ j i. all_in (IsEventOf f) (events_so_far old) h j i))
 
   places_now : (bot : Sym) (v : List Tree) → ArePlacedTrue bot (state_of old v true) old.selection.places → ArePlacedTrue bot (record { entries = entries_of old ++ last ∷ []; valuation = v; has_solved = true }) old.selection.places
   places_now bot v h = record {
@@ -289,10 +297,11 @@ module _ {S I C : Type 0} (atoms : S → ℕ) (added : S → List (List (Signed 
 
   pub running_appended : KeepsRunning atoms added old new
   running_appended bot cs budget v h = record {
-    events = transport (All (IsEventOf g)) (sym appends.event) (All-push (IsEventOf g) old.journal (Inferred o) (events_later f g appends.bank old.journal h.events) tt);
-    replays = transport (λ es. Replays bot cs (map (event_in g) new.journal) (record { entries = es; valuation = v; has_solved = true })) (sym entries_now)
-        (transport (λ js. Replays bot cs js (record { entries = entries_of old ++ last ∷ []; valuation = v; has_solved = true })) (sym (journal_now h.events))
-        (replay_goes_on bot cs (map (event_in f) old.journal) (state_of old v true) (record { entries = entries_of old ++ last ∷ []; valuation = v; has_solved = true })
+    logged = transport (λ (l : Log). IsLogOf l (items new)) (sym appends.log) (transport (IsLogOf old.log) (sym appends.entry) (order_after_entry old.log (items old) (d, o) h.logged));
+    events = transport (All (IsEventOf g)) (sym (events_now h.logged)) (All-push (IsEventOf g) (events_so_far old) (Inferred o) (events_later f g appends.bank (events_so_far old) h.events) tt);
+    replays = transport (λ es. Replays bot cs (map (event_in g) (events_so_far new)) (record { entries = es; valuation = v; has_solved = true })) (sym entries_now)
+        (transport (λ js. Replays bot cs js (record { entries = entries_of old ++ last ∷ []; valuation = v; has_solved = true })) (sym (journal_now h.logged h.events))
+        (replay_goes_on bot cs (map (event_in f) (events_so_far old)) (state_of old v true) (record { entries = entries_of old ++ last ∷ []; valuation = v; has_solved = true })
         (machine.inferred (origin_of o)) h.replays (steps bot v h.places)));
     linked = links bot h.linked;
     bits = let (more, q) = atoms_grow f g old.ground.abstraction.ids new.ground.abstraction.ids appends.bank h.linked.fits.within appends.atoms in
@@ -373,7 +382,7 @@ made_concluded old new side from partner d m k =
     ∙ ap canonical_form (ap (λ (x : Item). instance (of_side m.0.unifier side) (clause_at f x.0)) same ∙ ap (λ s. instance s (clause_at f l.item.0)) (sym (from_left side m.0.unifier)))
 
 -- an inference after its size and its clause were found
-module _ {S I C : Type 0} (atoms : S → ℕ) (added : S → List (List (Signed ℕ))) (old new : Run S I C) (side : Side) (from partner size len : ℕ) (at : code.Held) (d : List (Signed ℕ)) (item : Item)
+module _ {S I C : Type 0} (atoms : S → ℕ) (added : S → List (List (Signed ℕ))) (old new : Run S I C) (side : Side) (from partner size len : ℕ) (at : Premises) (d : List (Signed ℕ)) (item : Item)
     (m : MayInfer old side from partner) (entries : AreEntries old.entries.bank (items old)) (ids : IsClauseOf old.entries.bank d)
     (links : KeepsLink atoms added old new) (made : clause_at old.entries.bank d ≡ canonical_form (concluded old side from partner m))
     (first : at.from ≡ from) (second : at.partner ≡ partner) (item_at : at_number (items old) from ≡ Some item) (long : length item.0 ≡ len)
@@ -421,7 +430,7 @@ module _ {S I C : Type 0} (atoms : S → ℕ) (added : S → List (List (Signed 
 
     whole_appended : AppendsWhole old new d at size → KeepsRunning atoms added old new
     whole_appended w =
-        running_appended atoms added old new size d (Inst at.from at.place at.partner at.other) whole entries w.appends links (clause_extends before new.entries.bank w.appends.bank d ids ∙ made)
+        running_appended atoms added old new size d (Inst at.from at.place at.partner at.other) whole entries w.appends links (clause_extends before new.entries.bank w.appends.bank d ids ∙ made) refl
         (λ bot v placed. step bot (state_of old v true) at.from at.place at.partner at.other whole (taken bot v placed)
         (transport (λ cs. IsIrreducible cs whole) (sym (same_clauses before (items old))) (transport (IsIrreducible (clauses_in before (items old))) made w.irreducible)))
         (λ k e light. let cut = sized k e in let le = fits k e in (omega arith, le))
@@ -435,7 +444,7 @@ module _ {S I C : Type 0} (atoms : S → ℕ) (added : S → List (List (Signed 
         let smaller = part_size whole w.lemma.keep r.keep in
         let size_is : clause_size (clause_at new.entries.bank w.part) ≡ clause_size (canonical_form literals) = ap clause_size clause in
         running_appended atoms added old new (min (clause_size (clause_at new.entries.bank w.part)) (2 ^ 64 - 1)) w.part (Lemma at.from at.place at.partner at.other w.lemma.keep w.lemma.premises)
-        (canonical_form literals) entries w.appends links clause
+        (canonical_form literals) entries w.appends links clause refl
         (λ bot v placed. part_step bot (state_of old v true) at.from at.place at.partner at.other whole (taken bot v placed) w.lemma.keep w.lemma.premises r.keep
         (transport (λ n. AreWithin n w.lemma.premises) (length_map (λ (x : Entry). x.clause) (entries_of old)) r.premises.within) r.follows)
         (λ k e light. let cut = sized k e in let le = fits k e in (omega arith, omega arith))

@@ -20,7 +20,7 @@ use Rattle.instgen_loop.specs.declared.state.Run.{Run}
 use Rattle.instgen_loop.specs.declared.queue.Partners.{Partners}
 use Rattle.instgen_loop.specs.Clauses.{Item}
 use Rattle.instgen_loop.specs.Loops.{items, held_of}
-use Rattle.instgen_loop.specs.Running.{event_in, entries_of, state_of, IsRunning, saturation_at}
+use Rattle.instgen_loop.specs.Running.{event_in, entries_of, state_of, IsRunning, saturation_at, events_so_far}
 use Rattle.instgen_loop.specs.Tended.{AreTended, indexed_of}
 
 -- where nothing waits each entry is indexed
@@ -36,7 +36,7 @@ pub saturated_is_valid : {S I C : Type 0} (atoms : S → ℕ) (added : S → Lis
     → AreFormedClauses (with_axioms base.inputs) → base.axioms ≡ equality_axioms base.inputs → IsRunning atoms added r bot (with_axioms base.inputs) budget v true → AreTended pairs r p
     → r.queue.items ≡ [] → length r.selection.places ≡ length (items r) → All (IsDecided (entries_of r) r.selection.places []) (held_of r) → IsValidSaturation (saturation_at r base)
 saturated_is_valid atoms added pairs r p base bot budget v formed axioms h tended none whole decided =
-    valid_when_closed bot (saturation_at r base) (map (event_in r.entries.bank) r.journal) v true formed h.replays axioms h.places long
+    valid_when_closed bot (saturation_at r base) (map (event_in r.entries.bank) (events_so_far r)) v true formed h.replays axioms h.places long
     (all_covered bot (state_of r v true) r.selection.places h.places long (indexed_of pairs p) (held_of r) tended.worked (all_indexed pairs r p tended none) decided)
   where
     count : length (entries_of r) ≡ length (items r)

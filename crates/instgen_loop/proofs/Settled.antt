@@ -14,10 +14,9 @@ use Rattle.engine_laws.proofs.WorkedPairs.{pair_stays_worked}
 use Rattle.term_bank.specs.Forest.{Forest, AreIds, clause_at, tree_at}
 use Rattle.engine_laws.specs.Valuations.{AreFlips}
 use Rattle.ground_abs.specs.Abstracts.{atoms_in}
-use Rattle.instgen_loop.specs.declared.event.Event.TheVariants.{Solved}
 use Rattle.term_index.specs.Pairs.{Pair}
 use Rattle.cert_values.specs.Values.{origin_of}
-use Rattle.instgen_loop.specs.declared.event.Event.{Event}
+use Rattle.instgen_loop.specs.Logs.{Log, with_solve}
 use Rattle.instgen_loop.specs.declared.state.Run.{Run}
 use Rattle.instgen_loop.specs.declared.queue.Partners.{Partners}
 use Rattle.instgen_loop.specs.Choosing.{IsUnderWay, AreNumbersPlaced, AreUsersKept}
@@ -169,11 +168,11 @@ module _ {S I C : Type 0} (r mid : Run S I C) (first last : Placing) (bits : Lis
       true_places = λ i l. transport (λ ls. IsTruePlace ls last.places bits i) same_literals (all_are_true mid.ground.literals bits last under_way i l);
     }
 
--- Neither the journal nor the valuation matters
+-- Neither the log nor the valuation matters
 
-module _ {S I C : Type 0} (atoms : S → ℕ) (pairs : I → List Pair) (fits : Forest → I → Type 0) (r : Run S I C) (p : Partners I C) (h : IsOrderly atoms pairs fits r p) (journal : List Event) (bits : List Bool) where
+module _ {S I C : Type 0} (atoms : S → ℕ) (pairs : I → List Pair) (fits : Forest → I → Type 0) (r : Run S I C) (p : Partners I C) (h : IsOrderly atoms pairs fits r p) (log : Log) (bits : List Bool) where
   abbrev accepted : Run S I C
-  accepted = record r { journal = journal; ground = record r.ground { valuation = bits } }
+  accepted = record r { log = log; ground = record r.ground { valuation = bits } }
 
   stored_in : (q : Pair) → IsStored r q → IsStored accepted q
   stored_in q (a, b, c) = (a, b, record { item = c.item; place = c.place; literal = c.literal; item_at = c.item_at; place_at = c.place_at; literal_at = c.literal_at; atom = c.atom })
@@ -195,14 +194,14 @@ module _ {S I C : Type 0} (atoms : S → ℕ) (pairs : I → List Pair) (fits : 
     tended = record { once = h.tended.once; positive = h.tended.positive; apart = h.tended.apart; queued = h.tended.queued; worked = h.tended.worked };
   }
 
-module _ {S I C : Type 0} (atoms : S → ℕ) (added : S → List (List (Signed ℕ))) (r mid : Run S I C) (bits : List Bool) (settles : Settles r mid bits) (journal : List Event) (flips : List ℕ)
-    (pushed : journal ≡ mid.journal ++ Solved flips ∷ []) (ids : AreIds r.entries.bank flips) (changes : AreFlips (atoms_in r.entries.bank r.ground.abstraction.ids) r.ground.valuation bits (map (tree_at r.entries.bank) flips))
+module _ {S I C : Type 0} (atoms : S → ℕ) (added : S → List (List (Signed ℕ))) (r mid : Run S I C) (bits : List Bool) (settles : Settles r mid bits) (log : Log) (flips : List ℕ)
+    (pushed : log ≡ with_solve mid.log flips (length (items mid))) (ids : AreIds r.entries.bank flips) (changes : AreFlips (atoms_in r.entries.bank r.ground.abstraction.ids) r.ground.valuation bits (map (tree_at r.entries.bank) flips))
     (width : length bits ≤ length r.ground.abstraction.ids) where
-  pub accepted_solves : Solves atoms added r (record mid { journal = journal; ground = record mid.ground { valuation = bits } }) flips
+  pub accepted_solves : Solves atoms added r (record mid { log = log; ground = record mid.ground { valuation = bits } }) flips
   accepted_solves = record {
     ids = ids;
     changes = changes;
-    event = pushed ∙ ap (λ (x : Run S I C). x.journal ++ Solved flips ∷ []) settles.rest;
+    log = pushed ∙ ap (λ (x : Run S I C). with_solve x.log flips (length (items x))) settles.rest;
     width = width;
     numbering = ap (λ (x : Run S I C). x.ground.abstraction) settles.rest;
     literals = ap (λ (x : Run S I C). x.ground.literals) settles.rest;
@@ -253,14 +252,14 @@ module _ {S I C : Type 0} (atoms : S → ℕ) (pairs : I → List Pair) (fits : 
       omega arith
 
   module _ (last : Placing) (more : List ℕ) (grown : last.places ≡ s.places ++ more) (under_way : IsUnderWay r.ground.literals bits [] [] last) (numbers : AreNumbersPlaced last) (whole : length last.places ≡ length r.ground.literals)
-      (journal : List Event) where
+      (log : Log) where
     pub stays_settled : Settles r (record r { selection = last }) bits
     stays_settled = all_settled r (record r { selection = s }) s last bits (record { rest = refl; count = refl; users = refl }) grounded.lengths under_way numbers whole
 
-    pub stays_orderly : IsOrderly atoms pairs fits (record r { selection = last; journal = journal }) p
+    pub stays_orderly : IsOrderly atoms pairs fits (record r { selection = last; log = log }) p
     stays_orderly = accepted_orderly atoms pairs fits (record r { selection = last }) p
         (grown_orderly atoms pairs fits (record r { selection = s }) p bits (started_orderly atoms pairs fits added r p bits [] h users grounded s places count kept) last more grown grounded.lengths whole
-        (all_are_true r.ground.literals bits last under_way)) journal bits
+        (all_are_true r.ground.literals bits last under_way)) log bits
 
-    pub stays_solves : journal ≡ r.journal ++ Solved [] ∷ [] → Solves atoms added r (record r { selection = last; journal = journal }) []
-    stays_solves pushed = accepted_solves atoms added r (record r { selection = last }) bits stays_settled journal [] pushed (All-nil (λ a. a < length r.entries.bank.trees)) (no_flips (atoms_in r.entries.bank r.ground.abstraction.ids) bits) grounded.width
+    pub stays_solves : log ≡ with_solve r.log [] (length (items r)) → Solves atoms added r (record r { selection = last; log = log }) []
+    stays_solves pushed = accepted_solves atoms added r (record r { selection = last }) bits stays_settled log [] pushed (All-nil (λ a. a < length r.entries.bank.trees)) (no_flips (atoms_in r.entries.bank r.ground.abstraction.ids) bits) grounded.width

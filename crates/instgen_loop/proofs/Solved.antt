@@ -1,5 +1,5 @@
 -- A solve keeps the invariant of a run, with the valuation that it leads to.
-use Rattle.std.proofs.Common.{◌≡◌, ℕ, zero, suc, ◌<◌, ◌≤◌, List, [], ◌∷◌, ◌++◌, sym, ap, ◌∙◌, subst as transport, map, length, Bool, true, All, Contains, Some}
+use Rattle.std.proofs.Common.{◌≡◌, ℕ, zero, suc, ◌<◌, ◌≤◌, List, [], ◌∷◌, ◌++◌, sym, ap, ap₂, ◌∙◌, subst as transport, map, length, Bool, true, All, Contains, Some}
 use Rattle.std.specs.Prelude.{slice_get}
 use Rattle.std.proofs.lemmas.List.Elements.{All-push}
 use Rattle.inst_logic.specs.declared.symbol.Sym.{Sym}
@@ -38,9 +38,12 @@ use Rattle.instgen_loop.specs.declared.event.Event.TheVariants.{Solved}
 use Rattle.instgen_loop.specs.declared.state.Run.{Run}
 use Rattle.instgen_loop.specs.Clauses.{Item, entries_in, clauses_in}
 use Rattle.instgen_loop.specs.Loops.{items}
-use Rattle.instgen_loop.specs.Running.{event_in, IsEventOf, entries_of, state_of, IsRunning}
+use Rattle.instgen_loop.specs.Logs.{Log, with_solve}
+use Rattle.instgen_loop.specs.Marks.{events_of, IsLogOf}
+use Rattle.instgen_loop.specs.Running.{event_in, IsEventOf, entries_of, events_so_far, state_of, IsRunning}
 use Rattle.instgen_loop.specs.Solves.{Solves, IsTruePlace}
 use Rattle.instgen_loop.proofs.Inferred.{same_clauses}
+use Rattle.instgen_loop.proofs.Logged.{solve_logged, order_after_solve}
 use Rattle.instgen_loop.proofs.Works.{slice_get_map, at_number_map}
 
 pub from_map_number : {X Y : Type 0} (f : X → Y) (xs : List X) (n : ℕ) (y : Y) → at_number (map f xs) n ≡ Some y → (x : X) × (at_number xs n ≡ Some x) × (f x ≡ y)
@@ -74,18 +77,21 @@ running_solved atoms added old new flips solves holds bot cs budget v b h =
     let ids = old.ground.abstraction.ids in
     let w = change_all v (map (tree_at f) flips) in
     let abstracted : AreAbstracted bot (atoms_in f ids) old.ground.literals (entry_clauses (entries_of old)) = transport (AreAbstracted bot (atoms_in f ids) old.ground.literals) (sym (same_clauses f (items old))) h.linked.same in
-    let (replays, settled, bits) = valuation_is_a_step bot cs (map (event_in f) old.journal) (state_of old v b) (atoms_in f ids) old.ground.literals old.ground.valuation new.ground.valuation (map (tree_at f) flips)
+    let (replays, settled, bits) = valuation_is_a_step bot cs (map (event_in f) (events_so_far old)) (state_of old v b) (atoms_in f ids) old.ground.literals old.ground.valuation new.ground.valuation (map (tree_at f) flips)
     h.replays h.linked.fits.atoms abstracted h.bits solves.changes (transport (All (IsTrueClause (IsHeld new.ground.valuation))) h.linked.given holds) in
-    let journal : map (event_in f) new.journal ≡ map (event_in f) old.journal ++ machine.solved (map (tree_at f) flips) ∷ [] = ap (map (event_in f)) solves.event ∙ map_append (event_in f) old.journal (Solved flips ∷ []) in
-    let events : All (IsEventOf f) new.journal = transport (All (IsEventOf f)) (sym solves.event) (All-push (IsEventOf f) old.journal (Solved flips) h.events solves.ids) in
+    let items_now : items new ≡ items old = ap (λ (e : Entries _ _). e.clauses.entries) solves.entries in
+    let now : events_so_far new ≡ events_so_far old ++ Solved flips ∷ [] = ap₂ events_of solves.log items_now ∙ solve_logged old.log (items old) flips h.logged in
+    let journal : map (event_in f) (events_so_far new) ≡ map (event_in f) (events_so_far old) ++ machine.solved (map (tree_at f) flips) ∷ [] = ap (map (event_in f)) now ∙ map_append (event_in f) (events_so_far old) (Solved flips ∷ []) in
+    let events : All (IsEventOf f) (events_so_far new) = transport (All (IsEventOf f)) (sym now) (All-push (IsEventOf f) (events_so_far old) (Solved flips) h.events solves.ids) in
     let count : length (entries_of old) ≡ length (items old) = length_map (λ (x : Item). record { clause = clause_at f x.0; origin = origin_of x.1 }) (items old) in
     let places : ArePlacedTrue bot (state_of old w true) new.selection.places = record {
       within = transport (λ n. length new.selection.places ≤ n) (sym count) solves.within;
       placed = λ i l. place_is_true bot (atoms_in f ids) new.ground.valuation w old.ground.literals (entries_of old) new.selection.places i true h.linked.fits.atoms bits abstracted (solves.placed i l);
     } in
     record {
-      events = transport (λ (e : Entries _ _). All (IsEventOf e.bank) new.journal) (sym solves.entries) events;
-      replays = transport (λ (e : Entries _ _). Replays bot cs (map (event_in e.bank) new.journal) (record { entries = entries_in e.bank e.clauses.entries; valuation = w; has_solved = true })) (sym solves.entries)
+      logged = transport (λ (l : Log). IsLogOf l (items new)) (sym solves.log) (transport (IsLogOf (with_solve old.log flips (length (items old)))) (sym items_now) (order_after_solve old.log (items old) flips h.logged));
+      events = transport (λ (e : Entries _ _). All (IsEventOf e.bank) (events_so_far new)) (sym solves.entries) events;
+      replays = transport (λ (e : Entries _ _). Replays bot cs (map (event_in e.bank) (events_so_far new)) (record { entries = entries_in e.bank e.clauses.entries; valuation = w; has_solved = true })) (sym solves.entries)
           (transport (λ js. Replays bot cs js (state_of old w true)) (sym journal) replays);
       linked = record {
         constant = ap (λ (a : Numbering). a.bot) solves.numbering ∙ h.linked.constant;

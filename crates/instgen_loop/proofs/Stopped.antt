@@ -22,16 +22,19 @@ use Rattle.engine_laws.proofs.SelectedEntries.{open_is_among, still_is_open}
 use Rattle.term_bank.specs.Forest.{Forest}
 use Rattle.term_index.specs.Pairs.{Pair}
 use Rattle.cert_values.specs.declared.certificate.Saturation.{Saturation}
-use Rattle.instgen_loop.specs.declared.event.Event.{Event}
+use Rattle.instgen_loop.specs.declared.ending.Ending.TheVariants.{OutOfBudget}
+use Rattle.instgen_loop.specs.declared.finish.SettledRun.{SettledRun}
+use Rattle.instgen_loop.specs.Endings.{IsEndingAfter}
+use Rattle.instgen_loop.specs.Logs.{Log}
 use Rattle.instgen_loop.specs.declared.start.Given.{Given}
 use Rattle.instgen_loop.specs.declared.state.Run.{Run}
-use Rattle.instgen_loop.specs.declared.state.Held as code
+use Rattle.instgen_loop.specs.declared.premises.Premises.{Premises}
 use Rattle.instgen_loop.specs.declared.queue.Partners.{Partners}
 use Rattle.instgen_loop.specs.Deciding.{IsOpenHeld, IsLeastOpen}
 use Rattle.instgen_loop.specs.Ending.{IsAtRest, settled_from, saturation_from}
 use Rattle.instgen_loop.specs.Loops.{held_in, held_of}
 use Rattle.instgen_loop.specs.Outcomes.{IsStoppedRun}
-use Rattle.instgen_loop.specs.Running.{entries_of, state_of, event_in, IsRunning, IsSolvedFor}
+use Rattle.instgen_loop.specs.Running.{entries_of, state_of, event_in, IsRunning, IsSolvedFor, events_so_far}
 use Rattle.instgen_loop.specs.Starting.{IsOfProblem}
 use Rattle.instgen_loop.specs.Tended.{indexed_of}
 use Rattle.instgen_loop.proofs.Endings.{same, long, selected_run, own_constant}
@@ -124,7 +127,7 @@ module _ {S I C : Type 0} (atoms : S → ℕ) (added : S → List (List (Signed 
   pub some_left : ¬ (r.left ≡ None)
   some_left e =
       let (x, i, k) = among_held open_ones.at_open.clause (is_open open_ones.at wanted open_ones.at_open) in
-      contains_in x [] (transport (λ (hs : List code.Held). Contains (held_in hs) x) (h.none_held e) i)
+      contains_in x [] (transport (λ (hs : List Premises). Contains (held_in hs) x) (h.none_held e) i)
 
   least_one : IsSmallest r open_ones.still
   least_one = smallest_of r open_ones.at open_ones.still (contains_in open_ones.at open_ones.still open_ones.at_still) (λ k i. let (n, o, l) = open_ones.open_at k (in_contains k open_ones.still i) in (n, o))
@@ -137,7 +140,7 @@ module _ {S I C : Type 0} (atoms : S → ℕ) (added : S → List (List (Signed 
       cut_least (2 ^ 64 - 1) wanted (clause_size open_ones.at_open.clause) (clause_size s.open_at.clause) n l (o.size_is ∙ ap (λ k. min k (2 ^ 64 - 1)) q) open_ones.at_open.size_is
       (s.least open_ones.at (contains_in open_ones.at open_ones.still open_ones.at_still) open_ones.at_open.clause open_ones.at_open.concluded)
 
-  runs_out : (left : ℕ) → r.left ≡ Some left → RunsOut clauses budget left wanted bot (map (event_in r.entries.bank) r.journal) t (selected_at (entries_of r) r.selection.places)
+  runs_out : (left : ℕ) → r.left ≡ Some left → RunsOut clauses budget left wanted bot (map (event_in r.entries.bank) (events_so_far r)) t (selected_at (entries_of r) r.selection.places)
   runs_out left e =
       let run = selected_run atoms added pairs fits r p g clauses names budget v rest h problem in
       record {
@@ -156,12 +159,12 @@ module _ {S I C : Type 0} (atoms : S → ℕ) (added : S → List (List (Signed 
             transport (λ d. left < clause_size d) (one_conclusion (entries_of r) x.from x.place x.partner x.other b.clause c b.concluded k) b.large;
       }
 
-  pub stopped_run : (left : ℕ) → r.left ≡ Some left → IsStoppedRun clauses names budget left wanted (saturation_from names (settled_from r g)) r.journal
+  pub stopped_run : (left : ℕ) → r.left ≡ Some left → IsStoppedRun clauses names budget left wanted (saturation_from names (settled_from r g)) (events_so_far r)
   stopped_run left e = record {
     bot = bot;
     state = t;
     run = selected_run atoms added pairs fits r p g clauses names budget v rest h problem;
-    ends = transport (λ (c : format.Saturation). RunsOut clauses budget left wanted bot (map (event_in r.entries.bank) r.journal) t (format.selected_members c))
+    ends = transport (λ (c : format.Saturation). RunsOut clauses budget left wanted bot (map (event_in r.entries.bank) (events_so_far r)) t (format.selected_members c))
         (sym (same atoms added pairs fits r p g clauses names budget v rest h problem)) (runs_out left e);
   }
 
@@ -172,9 +175,9 @@ module _ {S I C : Type 0} (atoms : S → ℕ) (added : S → List (List (Signed 
   pub has_left : IsSolvedFor atoms added r (with_axioms clauses) budget → ¬ (r.left ≡ None)
   has_left (constant, v, h) = some_left atoms added pairs fits r p g clauses names budget v rest (own_constant atoms added r constant (with_axioms clauses) budget v h) problem wanted open_ones
 
-  pub stopped_outcome : IsSolvedFor atoms added r (with_axioms clauses) budget → (left : ℕ) → r.left ≡ Some left → (cert : Saturation) (journal : List Event) → cert ≡ saturation_from names (settled_from r g) → journal ≡ r.journal
-      → IsStoppedRun clauses names budget left wanted cert journal
-  stopped_outcome (constant, v, h) left l cert journal e q =
-      let run : IsStoppedRun clauses names budget left wanted (saturation_from names (settled_from r g)) r.journal =
-      stopped_run atoms added pairs fits r p g clauses names budget v rest (own_constant atoms added r constant (with_axioms clauses) budget v h) problem wanted open_ones left l in
-      transport (λ c. IsStoppedRun clauses names budget left wanted c journal) (sym e) (transport (IsStoppedRun clauses names budget left wanted (saturation_from names (settled_from r g))) (sym q) run)
+  pub stopped_outcome : IsSolvedFor atoms added r (with_axioms clauses) budget → (left : ℕ) → r.left ≡ Some left → (state : SettledRun) (log : Log) → state ≡ settled_from r g → log ≡ r.log
+      → IsEndingAfter clauses names budget (OutOfBudget left wanted state) log
+  stopped_outcome (constant, v, h) left l state log e q =
+      let run : IsEndingAfter clauses names budget (OutOfBudget left wanted (settled_from r g)) r.log =
+      (h.logged, stopped_run atoms added pairs fits r p g clauses names budget v rest (own_constant atoms added r constant (with_axioms clauses) budget v h) problem wanted open_ones left l) in
+      transport (λ (x : SettledRun). IsEndingAfter clauses names budget (OutOfBudget left wanted x) log) (sym e) (transport (IsEndingAfter clauses names budget (OutOfBudget left wanted (settled_from r g))) (sym q) run)

@@ -24,7 +24,7 @@ use Rattle.engine_laws.proofs.WorkedPairs.{placed_before, clauses_stay, pair_sta
 use Rattle.term_bank.specs.Forest.{Forest, IsClauseOf, clause_at, tree_at}
 use Rattle.term_index.specs.Pairs.{Pair, Gives, IsOver}
 use Rattle.instgen_loop.specs.declared.state.Run.{Run}
-use Rattle.instgen_loop.specs.declared.state.Held as code
+use Rattle.instgen_loop.specs.declared.premises.Premises.{Premises}
 use Rattle.instgen_loop.specs.Clauses.{Item, AreEntries, entries_in}
 use Rattle.instgen_loop.specs.Loops.{items, IsSelectedAtom, IsSelectedTree, IsSideWorkedIn, IsSideWorked, IsPairWorked, IsStored, Goes, held_in, held_of, after}
 use Rattle.term_bank.proofs.Growth.{extends_trans}
@@ -75,7 +75,7 @@ module _ {S I C : Type 0} (old new : Run S I C) (goes : Goes old new) (entries :
   held_grow =
       let (more, q) = goes.held in
       in_all (Contains (held_of new)) (held_of old) (λ h i. in_contains h (held_of new)
-      (transport (λ xs. h ∈ xs) (sym (ap held_in q ∙ map_append (λ (h : code.Held). record { from = h.from; place = h.place; partner = h.partner; other = h.other }) old.held.items more)) (in_left h (held_of old) (held_in more) i)))
+      (transport (λ xs. h ∈ xs) (sym (ap held_in q ∙ map_append (λ (h : Premises). record { from = h.from; place = h.place; partner = h.partner; other = h.other }) old.held.items more)) (in_left h (held_of old) (held_in more) i)))
 
   length_entries : length (entries_in old.entries.bank (items old)) ≡ length (items old)
   length_entries = length_map (λ (x : Item). record { clause = clause_at old.entries.bank x.0; origin = origin_of x.1 }) (items old)

@@ -7,11 +7,11 @@ use Rattle.inst_calculus.specs.Saturation.{IsCovered}
 use Rattle.inst_calculus.specs.Conclusions.{IsConclusion}
 use Rattle.engine_laws.specs.Pairs.{Held, IsStillSelected, IsCoveredNow, IsDecided}
 use Rattle.instgen_loop.specs.declared.state.Run.{Run}
-use Rattle.instgen_loop.specs.declared.state.Held as code
+use Rattle.instgen_loop.specs.declared.premises.Premises.{Premises}
 use Rattle.instgen_loop.specs.Loops.{held_of}
 use Rattle.instgen_loop.specs.Running.{entries_of}
 
-abbrev pub held_value : code.Held → Held
+abbrev pub held_value : Premises → Held
 held_value h = record { from = h.from; place = h.place; partner = h.partner; other = h.other }
 
 -- the numbers name entries with literals there, which have a conclusion

@@ -14,9 +14,11 @@ use Rattle.instgen_loop.specs.declared.event.Event.{Event}
 use Rattle.instgen_loop.specs.declared.ending.Ending.{Ending}
 use Rattle.instgen_loop.specs.declared.ending.Ending.TheVariants.{Refuted, Saturated, OutOfBudget}
 use Rattle.instgen_loop.specs.declared.refuted.RefutedRun.{RefutedRun}
-use Rattle.instgen_loop.specs.Clauses.{AreEntries, entries_in, clauses_in}
+use Rattle.instgen_loop.specs.Clauses.{AreEntries, Item, entries_in, clauses_in}
 use Rattle.instgen_loop.specs.Ending.{saturation_from}
 use Rattle.instgen_loop.specs.Grounds.{IsUsed}
+use Rattle.instgen_loop.specs.Logs.{Log}
+use Rattle.instgen_loop.specs.Marks.{events_of, IsLogOf}
 use Rattle.instgen_loop.specs.Outcomes.{IsSaturatedRun, IsStoppedRun}
 use Rattle.instgen_loop.specs.Running.{event_in, IsEventOf}
 use Rattle.instgen_loop.specs.Starting.{AreGiven}
@@ -47,3 +49,13 @@ abbrev pub IsEnding : List TreeClause → List (List ℕ) → ℕ → Ending →
 IsEnding clauses names budget (Refuted r) journal = IsRefuted clauses names r journal
 IsEnding clauses names budget (Saturated r) journal = IsSaturatedRun clauses names (saturation_from names r) journal
 IsEnding clauses names budget (OutOfBudget left wanted r) journal = IsStoppedRun clauses names budget left wanted (saturation_from names r) journal
+
+-- what the ending leaves of the run's entries
+abbrev pub entries_left : Ending → List Item
+entries_left (Refuted r) = r.remains.clauses.entries
+entries_left (Saturated r) = r.remains.clauses.entries
+entries_left (OutOfBudget left wanted r) = r.remains.clauses.entries
+
+-- the log is of these entries, and the ending is one after the events that they tell
+abbrev pub IsEndingAfter : List TreeClause → List (List ℕ) → ℕ → Ending → Log → Type 0
+IsEndingAfter clauses names budget e l = IsLogOf l (entries_left e) × IsEnding clauses names budget e (events_of l (entries_left e))

@@ -1,11 +1,6 @@
--- Logs of events as lists of events.
-use Rattle.std.specs.Prelude.{List, length}
-use Rattle.instgen_loop.specs.declared.event.Event.{Event}
+-- Logs of solves as plain lists.
 use Rattle.instgen_loop.specs.declared.event_log.EventLog.TheInside.{Inside}
-use Rattle.instgen_loop.specs.Marks.{events_from, AreInOrder}
+use Rattle.instgen_loop.specs.Logs.{Log}
 
-abbrev pub events_in : Inside → List Event
-events_in a = events_from a.flips.items a.appended.items 0 0 a.solves.items
-
-abbrev pub IsInOrder : Inside → Type 0
-IsInOrder a = AreInOrder (length a.flips.items) (length a.appended.items) 0 0 a.solves.items
+abbrev pub log_in : Inside → Log
+log_in a = record { flips = a.flips.items; solves = a.solves.items }

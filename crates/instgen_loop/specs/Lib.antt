@@ -22,6 +22,7 @@ pub mod Deciding
 pub mod Stops
 pub mod Ending
 pub mod Endings
+pub mod Logs
 pub mod Marks
 pub mod EventLogs
 pub mod Origins

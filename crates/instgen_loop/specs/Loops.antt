@@ -22,10 +22,9 @@ use Rattle.term_index.specs.Pairs.{Pair}
 use Rattle.ground_abs.specs.Abstracts.{AreAtomsIn, AreNotesIn, Grows}
 use Rattle.instgen_select.specs.Queues.{numbers}
 use Rattle.cert_values.specs.declared.member.Origin.{Origin}
-use Rattle.instgen_loop.specs.declared.event.Event.TheVariants.{Inferred}
 use Rattle.instgen_loop.specs.declared.state.Run.{Run}
 use Rattle.instgen_loop.specs.declared.queue.Partners.{Partners}
-use Rattle.instgen_loop.specs.declared.state.Held as code
+use Rattle.instgen_loop.specs.declared.premises.Premises.{Premises}
 use Rattle.instgen_loop.specs.Clauses.{Item, AreEntries, AreFirsts, clauses_in, entries_in}
 use Rattle.instgen_loop.specs.Grounds.{IsLinked}
 
@@ -54,20 +53,22 @@ pub record IsSafe {S I C : Type 0} (atoms : S → ℕ) (pairs : I → List Pair)
   pub placed : (i : ℕ) → i < length r.selection.places → IsLiteralPlace (items r) r.selection.places i
   pub known : r.known.clauses ≡ map (λ (e : Item). e.0) (items r)
 
--- one more entry, which waits in the queue and may not be picked yet; the rest is as it was
+-- one more entry, which waits in the queue and may not be picked yet; the log of solves and the rest are as they were
 pub record Appends {S I C : Type 0} (old new : Run S I C) (clause : List (Signed ℕ)) (origin : Origin) : Type 0 where
   pub bank : Extends old.entries.bank new.entries.bank
   pub entry : items new ≡ items old ++ (clause, origin) ∷ []
-  pub event : new.journal ≡ old.journal ++ Inferred origin ∷ []
   pub waits : numbers new.queue.items ≡ numbers old.queue.items ++ suc (length (items old)) ∷ []
   pub ready : new.queue.ready ≡ old.queue.ready
   pub valuation : new.ground.valuation ≡ old.ground.valuation
+  pub bot : new.ground.abstraction.bot ≡ old.ground.abstraction.bot
   pub atoms : Grows old.ground.abstraction.ids new.ground.abstraction.ids
   pub literals : (abstracted : List (Signed ℕ)) × (new.ground.literals ≡ old.ground.literals ++ abstracted ∷ [])
   pub selection : new.selection ≡ old.selection
   pub held : new.held.items ≡ old.held.items
+  pub log : new.log ≡ old.log
   pub left : new.left ≡ old.left
   pub bindings : new.bindings ≡ old.bindings
+  pub longest : new.entries.longest ≡ old.entries.longest
 
 -- the solver stays linked to the clauses
 abbrev pub KeepsLink : {S I C : Type 0} → (S → ℕ) → (S → List (List (Signed ℕ))) → Run S I C → Run S I C → Type 0
@@ -85,8 +86,8 @@ pub record IsSelectedAtom {S I C : Type 0} (r : Run S I C) (n a : ℕ) : Type 0 
   pub literal_at : at_number item.0 place ≡ Some literal
   pub atom : a ≡ literal.atom
 
-abbrev pub held_in : List code.Held → List Held
-held_in hs = map (λ (h : code.Held). record { from = h.from; place = h.place; partner = h.partner; other = h.other }) hs
+abbrev pub held_in : List Premises → List Held
+held_in hs = map (λ (h : Premises). record { from = h.from; place = h.place; partner = h.partner; other = h.other }) hs
 
 abbrev pub held_of : {S I C : Type 0} → Run S I C → List Held
 held_of r = held_in r.held.items
@@ -100,7 +101,7 @@ after k (suc n) = suc k ∷ after (suc k) n
 pub record Goes {S I C : Type 0} (old new : Run S I C) : Type 0 where
   pub bank : Extends old.entries.bank new.entries.bank
   pub entries : (more : List Item) × (items new ≡ items old ++ more)
-  pub held : (more : List code.Held) × (new.held.items ≡ old.held.items ++ more)
+  pub held : (more : List Premises) × (new.held.items ≡ old.held.items ++ more)
   pub waits : (count : ℕ) × (count + length (items old) ≡ length (items new)) × (numbers new.queue.items ≡ numbers old.queue.items ++ after (length (items old)) count)
   pub ready : new.queue.ready ≡ old.queue.ready
   pub selection : new.selection ≡ old.selection

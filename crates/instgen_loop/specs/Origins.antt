@@ -2,9 +2,9 @@
 use Rattle.cert_values.specs.declared.member.Origin.{Origin}
 use Rattle.cert_values.specs.declared.member.Origin.TheVariants as plain
 use Rattle.instgen_loop.specs.declared.origin.Packed.{Packed}
-use Rattle.instgen_loop.specs.declared.origin.Packed.TheVariants.{Input, Inst, Shared}
+use Rattle.instgen_loop.specs.declared.origin.Packed.TheVariants.{Input, Inst, Part}
 
 abbrev pub origin_in : Packed → Origin
 origin_in (Input k) = plain.Input k
-origin_in (Inst from place partner other) = plain.Inst from place partner other
-origin_in (Shared origin) = origin.value
+origin_in (Inst at) = plain.Inst at.from at.place at.partner at.other
+origin_in (Part p) = plain.Lemma p.value.at.from p.value.at.place p.value.at.partner p.value.at.other p.value.lemma.keep p.value.lemma.premises

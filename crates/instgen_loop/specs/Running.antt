@@ -33,10 +33,11 @@ use Rattle.global_subs.specs.Reductions.{IsReduction}
 use Rattle.instgen_loop.specs.declared.event.Event.{Event}
 use Rattle.instgen_loop.specs.declared.event.Event.TheVariants.{Solved, Inferred}
 use Rattle.instgen_loop.specs.declared.state.Run.{Run}
-use Rattle.instgen_loop.specs.declared.state.Held as code
+use Rattle.instgen_loop.specs.declared.premises.Premises.{Premises}
 use Rattle.instgen_loop.specs.Clauses.{entries_in, clauses_in}
 use Rattle.instgen_loop.specs.Grounds.{IsLinked}
 use Rattle.instgen_loop.specs.Loops.{items, held_of, Appends, IsSelectedLiteral}
+use Rattle.instgen_loop.specs.Marks.{events_of, IsLogOf}
 
 -- the event that the ids stand for
 abbrev pub event_in : Forest → Event → machine.Event
@@ -48,6 +49,9 @@ abbrev pub IsEventOf : Forest → Event → Type 0
 IsEventOf f (Solved flips) = AreIds f flips
 IsEventOf f (Inferred origin) = Unit {0}
 
+abbrev pub events_so_far : {S I C : Type 0} → Run S I C → List Event
+events_so_far r = events_of r.log (items r)
+
 abbrev pub entries_of : {S I C : Type 0} → Run S I C → List Entry
 entries_of r = entries_in r.entries.bank (items r)
 
@@ -55,11 +59,12 @@ entries_of r = entries_in r.entries.bank (items r)
 abbrev pub state_of : {S I C : Type 0} → Run S I C → List Tree → Bool → State
 state_of r v solved = record { entries = entries_of r; valuation = v; has_solved = solved }
 
--- The journal replays to the entries, the solver has their abstractions, the valuation's bits are its atoms, selected literals are
+-- The events replay to the entries, the solver has their abstractions, the valuation's bits are its atoms, selected literals are
 -- true, what is left of the budget is known where there are functions, and what is held back is a conclusion too large for it.
 pub record IsRunning {S I C : Type 0} (atoms : S → ℕ) (added : S → List (List (Signed ℕ))) (r : Run S I C) (bot : Sym) (cs : List TreeClause) (budget : ℕ) (v : List Tree) (solved : Bool) : Type 0 where
-  pub events : All (IsEventOf r.entries.bank) r.journal
-  pub replays : Replays bot cs (map (event_in r.entries.bank) r.journal) (state_of r v solved)
+  pub logged : IsLogOf r.log (items r)
+  pub events : All (IsEventOf r.entries.bank) (events_so_far r)
+  pub replays : Replays bot cs (map (event_in r.entries.bank) (events_so_far r)) (state_of r v solved)
   pub linked : IsLinked r.entries.bank r.ground (atoms r.ground.solver) (added r.ground.solver) bot (clauses_in r.entries.bank (items r))
   pub bits : IsValuationOf (atoms_in r.entries.bank r.ground.abstraction.ids) r.ground.valuation v
   pub width : length r.ground.valuation ≤ length r.ground.abstraction.ids
@@ -115,12 +120,12 @@ pub record Holds {S I C : Type 0} (old new : Run S I C) (from partner : ℕ) : T
   pub rest : new ≡ record old { held = new.held }
 
 -- the clause, of which the entries imply no proper part, was appended for this size
-pub record AppendsWhole {S I C : Type 0} (old new : Run S I C) (clause : List (Signed ℕ)) (at : code.Held) (size : ℕ) : Type 0 where
+pub record AppendsWhole {S I C : Type 0} (old new : Run S I C) (clause : List (Signed ℕ)) (at : Premises) (size : ℕ) : Type 0 where
   pub appends : Appends (record old { left = option_map (λ k. k - size) old.left }) new clause (Inst at.from at.place at.partner at.other)
   pub irreducible : IsIrreducible (clauses_in old.entries.bank (items old)) (clause_at old.entries.bank clause)
 
 -- a part of the clause that the entries imply was appended for its own size
-pub record AppendsPart {S I C : Type 0} (old new : Run S I C) (clause : List (Signed ℕ)) (at : code.Held) : Type 0 where
+pub record AppendsPart {S I C : Type 0} (old new : Run S I C) (clause : List (Signed ℕ)) (at : Premises) : Type 0 where
   pub lemma : Lemma
   pub part : List (Signed ℕ)
   pub reduction : IsReduction (clauses_in old.entries.bank (items old)) (clause_at old.entries.bank clause) lemma
@@ -129,7 +134,7 @@ pub record AppendsPart {S I C : Type 0} (old new : Run S I C) (clause : List (Si
       (origins.Lemma at.from at.place at.partner at.other lemma.keep lemma.premises)
 
 -- nothing changed, or the uncovered clause or a part of it was appended
-abbrev pub AppendsUncovered : {S I C : Type 0} → Run S I C → Run S I C → List (Signed ℕ) → code.Held → ℕ → ℕ → Type 0
+abbrev pub AppendsUncovered : {S I C : Type 0} → Run S I C → Run S I C → List (Signed ℕ) → Premises → ℕ → ℕ → Type 0
 AppendsUncovered old new clause at len size =
     (new ≡ old) ⊎ ((AppendsWhole old new clause at size ⊎ AppendsPart old new clause at)
     × ((c : TreeClause) → length c ≡ len → ¬ IsCovered (clauses_in old.entries.bank (items old)) c (clause_at old.entries.bank clause)))

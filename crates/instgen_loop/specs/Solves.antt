@@ -5,8 +5,8 @@ use Rattle.term_bank.specs.Forest.{AreIds, tree_at}
 use Rattle.engine_laws.specs.Valuations.{AreFlips}
 use Rattle.ground_abs.specs.Abstracts.{atoms_in}
 use Rattle.instgen_select.specs.Choices.{IsTrueAt}
-use Rattle.instgen_loop.specs.declared.event.Event.TheVariants.{Solved}
 use Rattle.instgen_loop.specs.declared.state.Run.{Run}
+use Rattle.instgen_loop.specs.Logs.{with_solve}
 use Rattle.instgen_loop.specs.Loops.{items}
 
 -- the literal at the place of entry i, counted from 0, is true by the bits
@@ -17,12 +17,12 @@ pub record IsTruePlace (literals : List (List (Signed ℕ))) (places : List ℕ)
   pub place_at : slice_get places i ≡ Some place
   pub holds : IsTrueAt clause bits place
 
--- the flips are in the journal, the bits are the valuation, and what has a place has a true one; the entries, what is held back and
+-- the flips are in the log, the bits are the valuation, and what has a place has a true one; the entries, what is held back and
 -- what is left are as they were
 pub record Solves {S I C : Type 0} (atoms : S → ℕ) (added : S → List (List (Signed ℕ))) (old new : Run S I C) (flips : List ℕ) : Type 0 where
   pub ids : AreIds old.entries.bank flips
   pub changes : AreFlips (atoms_in old.entries.bank old.ground.abstraction.ids) old.ground.valuation new.ground.valuation (map (tree_at old.entries.bank) flips)
-  pub event : new.journal ≡ old.journal ++ Solved flips ∷ []
+  pub log : new.log ≡ with_solve old.log flips (length (items old))
   pub width : length new.ground.valuation ≤ length old.ground.abstraction.ids
   pub numbering : new.ground.abstraction ≡ old.ground.abstraction
   pub literals : new.ground.literals ≡ old.ground.literals

@@ -12,6 +12,7 @@ use Rattle.term_index.specs.Pairs.{Pair}
 use Rattle.cert_values.specs.Wholes.{IsWholeClause}
 use Rattle.instgen_loop.specs.declared.start.Given.{Given}
 use Rattle.instgen_loop.specs.declared.state.Run.{Run}
+use Rattle.instgen_loop.specs.Logs.{no_solves}
 use Rattle.instgen_loop.specs.Loops.{items}
 
 -- nothing happened yet, and there are no entries
@@ -29,7 +30,7 @@ pub record IsFresh {S I C : Type 0} (atoms : S → ℕ) (added : S → List (Lis
   pub selection : r.selection ≡ record { places = []; users = [] }
   pub queue : r.queue.items ≡ []
   pub held : r.held.items ≡ []
-  pub journal : r.journal ≡ []
+  pub log : r.log ≡ no_solves
   pub known : r.known.clauses ≡ []
 
 -- the budget applies where there are functions

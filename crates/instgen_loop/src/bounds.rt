@@ -5,7 +5,7 @@ ghost use Rattle.inst_logic.specs.Tree.{Tree};
 ghost use Rattle.inst_logic.specs.Clauses.{TreeClause};
 ghost use Rattle.inst_logic.specs.WellFormed.{AreFormedClauses};
 ghost use Rattle.instgen_loop.specs.Loops.{items};
-ghost use Rattle.instgen_loop.specs.Running.{IsRunning, IsRunningFor, most_entries};
+ghost use Rattle.instgen_loop.specs.Running.{IsRunning, IsRunningFor, events_so_far, most_entries};
 ghost use Rattle.instgen_loop.specs.Outcomes.{appended_count};
 
 use crate::state::Run;
@@ -17,5 +17,5 @@ use term_index::PartnerIndex;
 pub fn entries_are_bounded<S: Solver, I: PartnerIndex>(_run: &Run<S, I>)
     ensures entries { (cs : List TreeClause) (budget : ℕ) → AreFormedClauses cs → IsRunningFor S.atoms S.added _run.now cs budget → length (items _run.now) ≤ most_entries cs budget }
     ensures appended { (bot : Sym) (cs : List TreeClause) (budget : ℕ) (v : List Tree) (b : Bool) → IsRunning S.atoms S.added _run.now bot cs budget v b
-        → (left : ℕ) → _run.now.left ≡ Some left → appended_count _run.now.journal ≤ suc budget }
+        → (left : ℕ) → _run.now.left ≡ Some left → appended_count (events_so_far _run.now) ≤ suc budget }
 {}

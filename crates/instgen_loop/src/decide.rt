@@ -10,7 +10,8 @@ ghost use Rattle.instgen_loop.specs.Deciding.{IsSomeConclusion, IsDecision, IsOn
 
 use crate::entries::is_covered;
 use crate::infer::{clause_of, conclusion_of, conclusion_size, place_of};
-use crate::state::{Held, Run};
+use crate::premises::Premises;
+use crate::state::Run;
 use crate::work::selected_atom;
 use inst_logic::Memory;
 use prop_logic::Solver;
@@ -32,16 +33,16 @@ fn lesser(least: Option<u64>, size: Option<u64>) -> Option<u64>
 }
 
 // Whether both literals are selected.
-fn is_still_selected<S: Solver, I: PartnerIndex>(run: &Run<S, I>, held: Held) -> bool
+fn is_still_selected<S: Solver, I: PartnerIndex>(run: &Run<S, I>, held: Premises) -> bool
     requires from { (0 < held.from) × (held.from ≤ length run.now.selection.places) }
     requires partner { (0 < held.partner) × (held.partner ≤ length run.now.selection.places) }
     ensures yes { result ≡ true → IsStillSelected run.now.selection.places (held_value held) }
     ensures no { result ≡ false → ¬ IsStillSelected run.now.selection.places (held_value held) }
 {
-    if place_of(run, held.from) != held.place {
+    if place_of(run, held.from as usize) != held.place as usize {
         return false;
     }
-    place_of(run, held.partner) == held.other
+    place_of(run, held.partner as usize) == held.other as usize
 }
 
 // The size of what entry `from` gives under the bindings, where the entries do not cover it.
@@ -69,7 +70,7 @@ fn uncovered_size<S: Solver, I: PartnerIndex>(
 }
 
 // What was held back after `k` others.
-fn held_at<S: Solver, I: PartnerIndex>(run: &Run<S, I>, k: usize) -> Held
+fn held_at<S: Solver, I: PartnerIndex>(run: &Run<S, I>, k: usize) -> Premises
     requires { k < length run.now.held.items }
     ensures { slice_get run.now.held.items k ≡ Some result }
 {
@@ -80,7 +81,7 @@ fn held_at<S: Solver, I: PartnerIndex>(run: &Run<S, I>, k: usize) -> Held
 fn decide_one<S: Solver, I: PartnerIndex>(
     alloc: Global,
     run: &mut Run<S, I>,
-    held: Held,
+    held: Premises,
 ) -> Result<Option<u64>, Memory>
     requires safe { IsSafe S.atoms I.pairs I.fits run.old }
     requires whole { length run.old.selection.places ≡ length (items run.old) }
@@ -92,12 +93,12 @@ fn decide_one<S: Solver, I: PartnerIndex>(
     if !is_still_selected(run, held) {
         return Ok(None);
     }
-    let a = selected_atom(run, held.from);
-    let b = selected_atom(run, held.partner);
+    let a = selected_atom(run, held.from as usize);
+    let b = selected_atom(run, held.partner as usize);
     if !run.bindings.unify(&run.entries.bank, a, b)? {
         return Ok(None);
     }
-    let size = uncovered_size(alloc, run, held.from)?;
+    let size = uncovered_size(alloc, run, held.from as usize)?;
     Ok(size)
 }
 

@@ -10,7 +10,7 @@ ghost use Rattle.instgen_loop.specs.Grounds.{IsLinked};
 ghost use Rattle.instgen_loop.specs.LineNumbers.{clauses_of};
 
 use crate::ground::{Ground, add_entry};
-use crate::records::{Origins, origin_of};
+use crate::origin::{Origins, origin_of};
 use crate::refuted::RefutedRun;
 use cert_values::GroundLineList;
 use compact_lists::FlatClauses;

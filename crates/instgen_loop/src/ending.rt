@@ -1,11 +1,13 @@
 // How a run ends. The certificate and the journal are made only once the run is gone, so that its memory serves for them.
 ghost use Rattle.std.specs.Prelude.{◌≡◌, [], IfOk};
-ghost use Rattle.instgen_loop.specs.Endings.{IsEnding};
+ghost use Rattle.instgen_loop.specs.Endings.{IsEnding, IsEndingAfter, entries_left};
+ghost use Rattle.instgen_loop.specs.Marks.{IsLogOf, events_of};
 ghost use Rattle.instgen_loop.specs.Outcomes.{IsOutcome, journal_of};
-ghost use Rattle.instgen_loop.specs.declared.outcome.Outcome.TheVariants.{Refuted, Saturated, OutOfBudget};
 
+use crate::event::Journal;
 use crate::event_log::EventLog;
 use crate::finish::{SettledRun, saturation_of};
+use crate::origin::Origins;
 use crate::outcome::Outcome;
 use crate::refuted::{RefutedRun, refutation_of};
 use cert_values::{Refutation, Saturation};
@@ -25,64 +27,48 @@ pub enum Ending {
     },
 }
 
-// The refutation with its journal.
-fn refuted_outcome(alloc: Global, cert: Refutation, log: &EventLog) -> Result<Outcome, Memory>
-    ensures { IfOk result (λ o. o ≡ Refuted cert log.now) }
+// What the ending leaves of the run's entries.
+fn entries_of(ending: &Ending) -> &Origins
+    ensures { result.now.entries ≡ entries_left ending.now }
 {
-    let journal = log.journal(alloc)?;
-    Ok(Outcome::Refuted { cert, journal })
+    match ending {
+        Ending::Refuted(run) => &run.remains.clauses,
+        Ending::Saturated(run) => &run.remains.clauses,
+        Ending::OutOfBudget { state, .. } => &state.remains.clauses,
+    }
 }
 
-// The saturation with its journal.
-fn saturated_outcome(alloc: Global, cert: Saturation, log: &EventLog) -> Result<Outcome, Memory>
-    ensures { IfOk result (λ o. o ≡ Saturated cert log.now) }
+// The events of a run that ends so.
+fn events_before(alloc: Global, ending: &Ending, log: &EventLog) -> Result<Journal, Memory>
+    requires { IsLogOf log.now (entries_left ending.now) }
+    ensures { IfOk result (λ j. j ≡ events_of log.now (entries_left ending.now)) }
 {
-    let journal = log.journal(alloc)?;
-    Ok(Outcome::Saturated { cert, journal })
+    log.journal(alloc, entries_of(ending))
 }
 
-// What the budget left open, with its journal.
-fn stopped_outcome(
-    alloc: Global,
-    left: u64,
-    wanted: u64,
-    state: Saturation,
-    log: &EventLog,
-) -> Result<Outcome, Memory>
-    ensures { IfOk result (λ o. o ≡ OutOfBudget left wanted state log.now) }
-{
-    let journal = log.journal(alloc)?;
-    Ok(Outcome::OutOfBudget {
-        left,
-        wanted,
-        state,
-        journal,
-    })
-}
-
-/// The outcome that ends so after these events. The fresh solver serves a refutation alone.
-pub fn outcome_of<S: Solver>(
+// The outcome that ends so after these events.
+fn outcome_after<S: Solver>(
     alloc: Global,
     p: &Problem,
     ending: Ending,
     last: S,
-    log: &EventLog,
+    journal: Journal,
     _budget: u64,
 ) -> Result<Outcome, Memory>
-    requires ending { IsEnding p.now.clauses p.now.names _budget ending log.now }
+    requires ending { IsEnding p.now.clauses p.now.names _budget ending journal }
     requires atoms { S.atoms last ≡ 0 }
     requires added { S.added last ≡ [] }
     ensures outcome { IfOk result (IsOutcome p.now.clauses p.now.names _budget) }
-    ensures journal { IfOk result (λ o. journal_of o ≡ log.now) }
+    ensures journal { IfOk result (λ o. journal_of o ≡ journal) }
 {
     match ending {
         Ending::Refuted(run) => {
-            let cert = refutation_of(alloc, p, run, last, log)?;
-            refuted_outcome(alloc, cert, log)
+            let cert = refutation_of(alloc, p, run, last, &journal)?;
+            Ok(Outcome::Refuted { cert, journal })
         }
         Ending::Saturated(run) => {
             let cert = saturation_of(alloc, p, run)?;
-            saturated_outcome(alloc, cert, log)
+            Ok(Outcome::Saturated { cert, journal })
         }
         Ending::OutOfBudget {
             left,
@@ -90,7 +76,33 @@ pub fn outcome_of<S: Solver>(
             state,
         } => {
             let state = saturation_of(alloc, p, state)?;
-            stopped_outcome(alloc, left, wanted, state, log)
+            Ok(Outcome::OutOfBudget {
+                left,
+                wanted,
+                state,
+                journal,
+            })
         }
+    }
+}
+
+/// The outcome of a run with this log that ends so. The fresh solver serves a refutation alone.
+pub fn outcome_of<S: Solver>(
+    alloc: Global,
+    p: &Problem,
+    ending: Ending,
+    last: S,
+    log: &EventLog,
+    budget: u64,
+) -> Result<Outcome, Memory>
+    requires ending { IsEndingAfter p.now.clauses p.now.names budget ending log.now }
+    requires atoms { S.atoms last ≡ 0 }
+    requires added { S.added last ≡ [] }
+    ensures outcome { IfOk result (IsOutcome p.now.clauses p.now.names budget) }
+    ensures journal { IfOk result (λ o. journal_of o ≡ events_of log.now (entries_left ending)) }
+{
+    match events_before(alloc, &ending, log) {
+        Ok(journal) => outcome_after(alloc, p, ending, last, journal, budget),
+        Err(Memory) => Err(Memory),
     }
 }

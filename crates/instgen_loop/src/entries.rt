@@ -7,11 +7,10 @@ ghost use Rattle.term_bank.specs.Forest.{clause_at, IsClauseOf};
 ghost use Rattle.instgen_loop.specs.Clauses.{AreEntries, AreFirsts, IsEntry, IsUnit, IsNoUnit, IsPast, IsShorterPart, HasShorterPart, AreNoParts, Item, clauses_in};
 ghost use Rattle.cert_values.specs.declared.member.Origin.{Origin};
 
-use crate::origin::PackedOrigin;
+use crate::origin::{Origins, PackedOrigin};
 use crate::scratch::Scratch;
 use crate::tested::Tested;
 use clause_form::{long_tautology, subsumes};
-use indexmap::IndexMap;
 use inst_logic::Memory;
 use std::alloc::Global;
 use term_bank::{Bank, IdClause, IdLiteral};
@@ -25,7 +24,7 @@ use term_index::{PartnerIndex, View};
 #[derive(Drop)]
 pub struct Entries<I: PartnerIndex> {
     pub bank: Bank,
-    pub clauses: IndexMap<IdClause, PackedOrigin>,
+    pub clauses: Origins,
     pub first: I,
     pub has_empty: bool,
     /// No entry has more literals.

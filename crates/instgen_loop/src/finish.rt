@@ -6,8 +6,9 @@ ghost use Rattle.cert_format.specs.Printable.{IsPrintableClause};
 ghost use Rattle.instgen_loop.specs.Loops.{IsSafe, items};
 ghost use Rattle.instgen_loop.specs.Deciding.{IsDecision, IsLeastOpen};
 ghost use Rattle.instgen_loop.specs.Ending.{IsAtRest, settled_from, saturation_from};
-ghost use Rattle.instgen_loop.specs.Endings.{IsEnding};
-ghost use Rattle.instgen_loop.specs.Running.{IsSolvedFor};
+ghost use Rattle.instgen_loop.specs.Endings.{IsEndingAfter, entries_left};
+ghost use Rattle.instgen_loop.specs.Marks.{events_of};
+ghost use Rattle.instgen_loop.specs.Running.{IsSolvedFor, events_so_far};
 ghost use Rattle.instgen_loop.specs.Starting.{IsOfProblem};
 ghost use Rattle.instgen_loop.specs.Tended.{AreTended};
 
@@ -50,7 +51,7 @@ fn settled_run<S: Solver, I: PartnerIndex>(
     given: Given,
 ) -> SettledRun
     ensures taken { result ≡ settled_from run.old given }
-    ensures journal { run.new.journal ≡ run.old.journal }
+    ensures log { run.new.log ≡ run.old.log }
 {
     let selection = replace(&mut run.selection, Selection::new(alloc));
     let remains = hand_over(alloc, run, given);
@@ -73,8 +74,8 @@ fn saturated_ending<S: Solver, I: PartnerIndex>(
     requires named { length _p.now.names ≡ length _p.now.clauses }
     requires readable { All (λ n. IsTrue (is_readable_name n)) _p.now.names }
     requires decided { IsDecision run.old None }
-    ensures ending { IsEnding _p.now.clauses _p.now.names _budget result run.new.journal }
-    ensures journal { run.new.journal ≡ run.old.journal }
+    ensures ending { IsEndingAfter _p.now.clauses _p.now.names _budget result run.new.log }
+    ensures events { events_of run.new.log (entries_left result) ≡ events_so_far run.old }
 {
     Ending::Saturated(settled_run(alloc, run, given))
 }
@@ -104,8 +105,8 @@ fn stopped_ending<S: Solver, I: PartnerIndex>(
     requires running { IsSolvedFor S.atoms S.added run.old (with_axioms _p.now.clauses) _budget }
     requires problem { IsOfProblem run.old given _p.now.clauses }
     requires open { IsLeastOpen run.old wanted }
-    ensures ending { IsEnding _p.now.clauses _p.now.names _budget result run.new.journal }
-    ensures journal { run.new.journal ≡ run.old.journal }
+    ensures ending { IsEndingAfter _p.now.clauses _p.now.names _budget result run.new.log }
+    ensures events { events_of run.new.log (entries_left result) ≡ events_so_far run.old }
 {
     let left = left_of(run);
     Ending::OutOfBudget {
@@ -115,7 +116,7 @@ fn stopped_ending<S: Solver, I: PartnerIndex>(
     }
 }
 
-/// Looks at what was held back once more, and hands the bank and the entries with their places over. Only the run's journal
+/// Looks at what was held back once more, and hands the bank and the entries with their places over. Only the run's log
 /// serves for anything after.
 pub fn finish<S: Solver, I: PartnerIndex>(
     alloc: Global,
@@ -134,8 +135,8 @@ pub fn finish<S: Solver, I: PartnerIndex>(
     requires clauses { All IsPrintableClause p.now.clauses }
     requires named { length p.now.names ≡ length p.now.clauses }
     requires readable { All (λ n. IsTrue (is_readable_name n)) p.now.names }
-    ensures ending { IfOk result (λ e. IsEnding p.now.clauses p.now.names budget e run.new.journal) }
-    ensures journal { OnOk result (run.new.journal ≡ run.old.journal) }
+    ensures ending { IfOk result (λ e. IsEndingAfter p.now.clauses p.now.names budget e run.new.log) }
+    ensures events { IfOk result (λ e. events_of run.new.log (entries_left e) ≡ events_so_far run.old) }
 {
     match decide(alloc, run)? {
         None => Ok(saturated_ending(alloc, p, run, partners, given, budget)),

@@ -3,23 +3,22 @@
 ghost use Rattle.std.specs.Prelude.{◌≡◌, map, IfOk};
 ghost use Rattle.instgen_loop.specs.Refuting.{member_of, remains_of, base_from};
 
-use crate::origin::PackedOrigin;
+use crate::origin::Origins;
 use crate::start::{Given, IdClauses, copied_clause, literals_after};
 use crate::state::Run;
 use cert_values::{Base, Member, MemberList};
-use indexmap::IndexMap;
 use inst_logic::{Memory, NameList, Problem};
 use prop_logic::Solver;
 use std::alloc::Global;
 use std::mem::replace;
-use term_bank::{Bank, IdClause, IdClauseList};
+use term_bank::{Bank, IdClauseList};
 use term_index::PartnerIndex;
 
 /// What a run leaves to a certificate: its bank, its entries, and what it was given.
 #[derive(Drop)]
 pub struct Remains {
     pub bank: Bank,
-    pub clauses: IndexMap<IdClause, PackedOrigin>,
+    pub clauses: Origins,
     pub given: Given,
 }
 
@@ -30,20 +29,17 @@ pub fn hand_over<S: Solver, I: PartnerIndex>(
     given: Given,
 ) -> Remains
     ensures remains { result ≡ remains_of run.old given }
-    ensures journal { run.new.journal ≡ run.old.journal }
+    ensures log { run.new.log ≡ run.old.log }
 {
     Remains {
         bank: replace(&mut run.entries.bank, Bank::new(alloc)),
-        clauses: replace(&mut run.entries.clauses, IndexMap::new(alloc)),
+        clauses: replace(&mut run.entries.clauses, Origins::new(alloc)),
         given,
     }
 }
 
 // The clauses with their origins as members, in their order.
-fn members_of(
-    alloc: Global,
-    clauses: IndexMap<IdClause, PackedOrigin>,
-) -> Result<MemberList, Memory>
+fn members_of(alloc: Global, clauses: Origins) -> Result<MemberList, Memory>
     ensures { IfOk result (λ members. members ≡ map member_of clauses.entries) }
 {
     let mut members = Vec::with_capacity(alloc, clauses.len())?;

@@ -18,7 +18,8 @@ ghost use Rattle.instgen_loop.specs.Running.{Reads, Holds, AppendsWhole, Appends
 
 use crate::entries::is_covered;
 use crate::origin::PackedOrigin;
-use crate::state::{Held, Run, append};
+use crate::premises::Premises;
+use crate::state::{Run, append};
 use clause_form::{canonical, clause_size};
 use global_subs::{Lemma, reduce};
 use inst_logic::{Memory, PlaceList};
@@ -190,12 +191,7 @@ fn hold<S: Solver, I: PartnerIndex>(
     ensures holds { OnOk result (Holds run.old run.new from partner) }
     ensures worked { OnOk result ((s : Sided) (side : Side) → IsSideWorked run.new (of_side s side) from partner) }
 {
-    let held = Held {
-        from,
-        place: place_of(run, from),
-        partner,
-        other: place_of(run, partner),
-    };
+    let held = Premises::new(from, place_of(run, from), partner, place_of(run, partner))?;
     run.held.push(held)?;
     Ok(())
 }
@@ -239,7 +235,7 @@ fn part_of<S: Solver, I: PartnerIndex>(
 fn append_whole<S: Solver, I: PartnerIndex>(
     run: &mut Run<S, I>,
     conclusion: IdClause,
-    at: Held,
+    at: Premises,
     size: u64,
 ) -> Result<(), Memory>
     requires safe { IsSafe S.atoms I.pairs I.fits run.old }
@@ -253,7 +249,7 @@ fn append_whole<S: Solver, I: PartnerIndex>(
     ensures appends { OnOk result (AppendsWhole run.old run.new conclusion at size) }
     ensures linked { OnOk result (KeepsLink S.atoms S.added run.old run.new) }
 {
-    let origin = PackedOrigin::inst(at)?;
+    let origin = PackedOrigin::inst(at);
     run.left = budget_after(run.left, size);
     append(run, conclusion, origin)
 }
@@ -263,7 +259,7 @@ fn append_part<S: Solver, I: PartnerIndex>(
     alloc: Global,
     run: &mut Run<S, I>,
     conclusion: &IdClause,
-    at: Held,
+    at: Premises,
     lemma: Lemma,
     _len: usize,
 ) -> Result<(), Memory>
@@ -288,7 +284,7 @@ fn append_uncovered<S: Solver, I: PartnerIndex>(
     alloc: Global,
     run: &mut Run<S, I>,
     conclusion: IdClause,
-    at: Held,
+    at: Premises,
     len: usize,
     size: u64,
 ) -> Result<(), Memory>
@@ -354,12 +350,7 @@ pub fn infer<S: Solver, I: PartnerIndex>(
         return Ok(());
     }
     let other = place_of(run, partner);
-    let at = Held {
-        from,
-        place,
-        partner,
-        other,
-    };
+    let at = Premises::new(from, place, partner, other)?;
     append_uncovered(alloc, run, conclusion, at, len, size)?;
     Ok(())
 }

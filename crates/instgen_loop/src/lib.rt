@@ -26,6 +26,7 @@ mod lines;
 mod origin;
 mod outcome;
 mod part_terms;
+mod premises;
 mod queue;
 mod records;
 mod refuted;

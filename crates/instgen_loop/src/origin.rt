@@ -1,36 +1,55 @@
 // Origins of entries in few bytes.
-ghost use Rattle.std.specs.Prelude.{◌≡◌, false, IfOk};
+ghost use Rattle.std.specs.Prelude.{◌≡◌, ◌<◌, ◌≤◌, ◌∷◌, [], Some, true, false, length, IfOk};
+ghost use Rattle.inst_logic.specs.Derivations.{at_number};
 ghost use Rattle.cert_values.specs.declared.member.Origin.TheVariants.{Input, Inst};
 ghost use Rattle.cert_values.specs.declared.member.Origin.TheVariants as origins;
+ghost use Rattle.instgen_loop.specs.Clauses.{Item};
 ghost use Rattle.instgen_loop.specs.Derived.{IsNoPart};
+ghost use Rattle.instgen_loop.specs.Marks.{told_by};
+ghost use Rattle.instgen_loop.specs.declared.event.Event.TheVariants.{Inferred};
 
+use crate::premises::Premises;
 use crate::small::small;
-use crate::state::Held;
 use cert_values::Origin;
 use global_subs::Lemma;
+use indexmap::IndexMap;
 use inst_logic::Memory;
-use std::alloc::{AllocError, Global};
+use std::alloc::Global;
 use std::marker::Model;
-use std::rc::Rc;
+use term_bank::IdClause;
 
-// The numbers of an input and of a conclusion in four bytes each. A part of a conclusion has lists, which its entry and its event
-// share.
+// A part of the conclusion of these premises.
+#[derive(Drop)]
+struct Part {
+    at: Premises,
+    lemma: Lemma,
+}
+
 #[derive(Drop)]
 enum Packed {
     Input(u32),
-    Inst {
-        from: u32,
-        place: u32,
-        partner: u32,
-        other: u32,
-    },
-    Shared(Rc<Origin>),
+    Inst(Premises),
+    Part(Box<Part>),
 }
 
 /// An origin in 24 bytes, and the lists of a lemma beside it.
 #[derive(Drop)]
 pub struct PackedOrigin {
     packed: Packed,
+}
+
+/// Clauses with their origins, by their numbers.
+pub type Origins = IndexMap<IdClause, PackedOrigin>;
+
+/// The origin of entry `n`.
+pub fn origin_of(clauses: &Origins, n: usize) -> &PackedOrigin
+    requires { (0 < n) × (n ≤ length clauses.now.entries) }
+    ensures { (item : Item) × (at_number clauses.now.entries n ≡ Some item) × (item.1 ≡ result.now) }
+{
+    match clauses.get_index(n - 1) {
+        Some((_, origin)) => origin,
+        None => unreachable!(),
+    }
 }
 
 impl Model for PackedOrigin {
@@ -55,35 +74,35 @@ impl PackedOrigin {
         })
     }
 
-    /// The origin of a conclusion. It lacks memory where a number needs more than four bytes.
-    pub fn inst(at: Held) -> Result<PackedOrigin, Memory>
-        ensures { IfOk result (λ o. o ≡ Inst at.from at.place at.partner at.other) }
+    /// The origin of a conclusion.
+    pub fn inst(at: Premises) -> PackedOrigin
+        ensures { result ≡ Inst at.from at.place at.partner at.other }
     {
-        Ok(PackedOrigin {
-            packed: Packed::Inst {
-                from: small(at.from)?,
-                place: small(at.place)?,
-                partner: small(at.partner)?,
-                other: small(at.other)?,
-            },
-        })
+        PackedOrigin {
+            packed: Packed::Inst(at),
+        }
     }
 
     /// The origin of a part of a conclusion.
-    pub fn lemma(alloc: Global, at: Held, lemma: Lemma) -> Result<PackedOrigin, Memory>
+    pub fn lemma(alloc: Global, at: Premises, lemma: Lemma) -> Result<PackedOrigin, Memory>
         ensures { IfOk result (λ o. o ≡ origins.Lemma at.from at.place at.partner at.other lemma.keep lemma.premises) }
     {
-        let origin = Origin::Lemma {
-            from: at.from,
-            place: at.place,
-            partner: at.partner,
-            other: at.other,
-            keep: lemma.keep,
-            premises: lemma.premises,
-        };
+        let part = Box::new(alloc, Part { at, lemma })?;
         Ok(PackedOrigin {
-            packed: Packed::Shared(Rc::new(alloc, origin)?),
+            packed: Packed::Part(part),
         })
+    }
+
+    /// Whether it is that of an input.
+    pub fn is_input(&self) -> bool
+        ensures yes { result ≡ true → told_by self.now ≡ [] }
+        ensures no { result ≡ false → told_by self.now ≡ Inferred self.now ∷ [] }
+    {
+        match &self.packed {
+            Packed::Input(_) => true,
+            Packed::Inst(_) => false,
+            Packed::Part(_) => false,
+        }
     }
 
     /// Whether it may be that of a part of a conclusion. That of an input, or of a whole one, is none.
@@ -92,8 +111,8 @@ impl PackedOrigin {
     {
         match &self.packed {
             Packed::Input(_) => false,
-            Packed::Inst { .. } => false,
-            Packed::Shared(_) => true,
+            Packed::Inst(_) => false,
+            Packed::Part(_) => true,
         }
     }
 
@@ -103,41 +122,15 @@ impl PackedOrigin {
     {
         match &self.packed {
             Packed::Input(k) => Ok(Origin::Input(*k as usize)),
-            Packed::Inst {
-                from,
-                place,
-                partner,
-                other,
-            } => Ok(Origin::Inst {
-                from: *from as usize,
-                place: *place as usize,
-                partner: *partner as usize,
-                other: *other as usize,
-            }),
-            Packed::Shared(origin) => Ok(origin.as_ref().clone()?),
+            Packed::Inst(at) => Ok(at.origin()),
+            Packed::Part(part) => {
+                let part = part.as_ref();
+                let lemma = Lemma {
+                    keep: part.lemma.keep.clone()?,
+                    premises: part.lemma.premises.clone()?,
+                };
+                Ok(part.at.lemma_origin(lemma))
+            }
         }
-    }
-}
-
-impl Clone for PackedOrigin {
-    ghost is_clone = { λ a b. b ≡ a };
-
-    fn clone(&self) -> Result<PackedOrigin, AllocError> {
-        let packed = match &self.packed {
-            Packed::Input(k) => Packed::Input(*k),
-            Packed::Inst {
-                from,
-                place,
-                partner,
-                other,
-            } => Packed::Inst {
-                from: *from,
-                place: *place,
-                partner: *partner,
-                other: *other,
-            },
-            Packed::Shared(origin) => Packed::Shared(origin.clone()?),
-        };
-        Ok(PackedOrigin { packed })
     }
 }

@@ -5,7 +5,8 @@ ghost use Rattle.inst_logic.specs.Printing.{is_readable_name};
 ghost use Rattle.cert_format.specs.Printable.{IsPrintableClause};
 ghost use Rattle.inst_logic.specs.WellFormed.{is_constant};
 ghost use Rattle.inst_calculus.specs.Abstraction.{IsBot};
-ghost use Rattle.instgen_loop.specs.Endings.{IsEnding};
+ghost use Rattle.instgen_loop.specs.Endings.{IsEndingAfter, entries_left};
+ghost use Rattle.instgen_loop.specs.Marks.{events_of};
 ghost use Rattle.instgen_loop.specs.Starting.{IsFresh, IsAllowed};
 ghost use Rattle.instgen_loop.specs.Outcomes.{IsOutcome, IsDecided, appended_count, journal_of};
 
@@ -48,7 +49,7 @@ pub enum Outcome {
     },
 }
 
-// Starts a run, lets it work, and ends it. The run keeps its journal. Nothing comes where it was given up.
+// Starts a run, lets it work, and ends it. The run keeps its log. Nothing comes where it was given up.
 fn drive<S: Solver, I: PartnerIndex>(
     alloc: Global,
     p: &Problem,
@@ -67,8 +68,8 @@ fn drive<S: Solver, I: PartnerIndex>(
     requires clauses { All IsPrintableClause p.now.clauses }
     requires named { length p.now.names ≡ length p.now.clauses }
     requires readable { All (λ n. IsTrue (is_readable_name n)) p.now.names }
-    ensures ending { IfOk result (λ o. IfSome o (λ e. IsEnding p.now.clauses p.now.names budget e run.new.journal)) }
-    ensures appended { OnOk result (IsFalse (is_function_free p.now.clauses) → appended_count run.new.journal ≤ suc budget) }
+    ensures ending { IfOk result (λ o. IfSome o (λ e. IsEndingAfter p.now.clauses p.now.names budget e run.new.log)) }
+    ensures appended { IfOk result (λ o. IfSome o (λ e. IsFalse (is_function_free p.now.clauses) → appended_count (events_of run.new.log (entries_left e)) ≤ suc budget)) }
     ensures unbounded { choices.most_entries ≡ None → IfOk result IsSome }
 {
     let Choices {
@@ -105,7 +106,7 @@ struct Solvers<S: Solver> {
     last: S,
 }
 
-// The outcome of a run that ends so after these events, or nothing where it was given up. What is not needed is let go here.
+// The outcome of a run with this log that ends so, or nothing where it was given up. What is not needed is let go here.
 fn outcome_where_ended<S: Solver>(
     alloc: Global,
     p: &Problem,
@@ -114,11 +115,12 @@ fn outcome_where_ended<S: Solver>(
     log: &EventLog,
     budget: u64,
 ) -> Result<Option<Outcome>, Memory>
-    requires ending { IfSome ending (λ e. IsEnding p.now.clauses p.now.names budget e log.now) }
+    requires ending { IfSome ending (λ e. IsEndingAfter p.now.clauses p.now.names budget e log.now) }
+    requires appended { IfSome ending (λ e. IsFalse (is_function_free p.now.clauses) → appended_count (events_of log.now (entries_left e)) ≤ suc budget) }
     requires atoms { S.atoms last ≡ 0 }
     requires added { S.added last ≡ [] }
     ensures outcome { IfOk result (λ o. IfSome o (IsOutcome p.now.clauses p.now.names budget)) }
-    ensures journal { IfOk result (λ o. IfSome o (λ it. journal_of it ≡ log.now)) }
+    ensures appended { IfOk result (λ o. IfSome o (λ it. IsFalse (is_function_free p.now.clauses) → appended_count (journal_of it) ≤ suc budget)) }
     ensures ended { IsSome ending → IfOk result IsSome }
 {
     match ending {
@@ -175,7 +177,7 @@ fn run_over<S: Solver, I: PartnerIndex>(
         ),
     )?;
     let ending = drive(alloc, p, &mut run, partners, choices, budget)?;
-    let log = replace(&mut run.journal, EventLog::new(alloc));
+    let log = replace(&mut run.log, EventLog::new(alloc));
     drop(run);
     outcome_where_ended(alloc, p, ending, last, &log, budget)
 }

@@ -18,21 +18,17 @@ ghost use Rattle.instgen_loop.specs.Deciding.{IsSomeConclusion, held_value};
 ghost use Rattle.instgen_loop.specs.Records.{AreConcluded, AreRecordsOf, IsConcluded, IsRecord};
 
 use crate::infer::literal_at;
-use crate::origin::PackedOrigin;
+use crate::origin::{Origins, origin_of};
 use crate::part_terms::part_terms;
+use crate::premises::Premises;
 use crate::start::copied_clause;
-use crate::state::Held;
 use cert_values::Origin;
 use clause_form::{Conclusion, conclude};
 use global_subs::{How, Lemma, Made, MadeList};
-use indexmap::IndexMap;
 use inst_logic::{Memory, Sym};
 use std::alloc::Global;
 use term_bank::{Bank, IdClause, TermId};
 use unify_core::{Bindings, Side};
-
-/// Clauses with their origins, by their numbers.
-pub type Origins = IndexMap<IdClause, PackedOrigin>;
 
 // Room for bindings, and the constant that stands for the variables that a part of a conclusion lacks.
 #[derive(Drop)]
@@ -52,24 +48,13 @@ fn clause_of(clauses: &Origins, n: usize) -> &IdClause
     }
 }
 
-/// The origin of entry `n`.
-pub fn origin_of(clauses: &Origins, n: usize) -> &PackedOrigin
-    requires { (0 < n) × (n ≤ length clauses.now.entries) }
-    ensures { (item : Item) × (at_number clauses.now.entries n ≡ Some item) × (item.1 ≡ result.now) }
-{
-    match clauses.get_index(n - 1) {
-        Some((_, origin)) => origin,
-        None => unreachable!(),
-    }
-}
-
 // What the two entries conclude, with what the variables of entry `at.from` become.
 fn conclusion_at(
     alloc: Global,
     bank: &mut Bank,
     bindings: &mut Bindings,
     clauses: &Origins,
-    at: Held,
+    at: Premises,
 ) -> Result<Conclusion, Memory>
     requires entries { AreEntries bank.old clauses.now.entries }
     requires concluded { IsSomeConclusion (entries_in bank.old clauses.now.entries) (held_value at) }
@@ -83,10 +68,10 @@ fn conclusion_at(
     ensures canonical { IfOk result (λ d. IsCanonical (clause_at bank.new d.clause)) }
     ensures clause { IfOk result (λ d. (c : TreeClause) → IsConclusion (entries_in bank.old clauses.now.entries) at.from at.place at.partner at.other c → clause_at bank.new d.clause ≡ c) }
 {
-    let first = clause_of(clauses, at.from);
-    let second = clause_of(clauses, at.partner);
-    let a = literal_at(first.as_slice(), at.place);
-    let b = literal_at(second.as_slice(), at.other);
+    let first = clause_of(clauses, at.from as usize);
+    let second = clause_of(clauses, at.partner as usize);
+    let a = literal_at(first.as_slice(), at.place as usize);
+    let b = literal_at(second.as_slice(), at.other as usize);
     if !bindings.unify(bank, a.atom, b.atom)? {
         unreachable!();
     }
@@ -100,7 +85,7 @@ fn how_whole(
     bank: &mut Bank,
     bindings: &mut Bindings,
     clauses: &Origins,
-    at: Held,
+    at: Premises,
 ) -> Result<How, Memory>
     requires entries { AreEntries bank.old clauses.now.entries }
     requires concluded { IsSomeConclusion (entries_in bank.old clauses.now.entries) (held_value at) }
@@ -113,7 +98,7 @@ fn how_whole(
 {
     let conclusion = conclusion_at(alloc, bank, bindings, clauses, at)?;
     Ok(How::From {
-        from: at.from,
+        from: at.from as usize,
         terms: conclusion.terms,
     })
 }
@@ -124,7 +109,7 @@ fn how_part(
     bank: &mut Bank,
     room: &mut Room,
     clauses: &Origins,
-    at: Held,
+    at: Premises,
     lemma: Lemma,
 ) -> Result<How, Memory>
     requires entries { AreEntries bank.old clauses.now.entries }
@@ -174,12 +159,7 @@ fn how_of(
             partner,
             other,
         } => {
-            let at = Held {
-                from,
-                place,
-                partner,
-                other,
-            };
+            let at = Premises::new(from, place, partner, other)?;
             how_whole(alloc, bank, &mut room.bindings, clauses, at)
         }
         Origin::Lemma {
@@ -190,12 +170,7 @@ fn how_of(
             keep,
             premises,
         } => {
-            let at = Held {
-                from,
-                place,
-                partner,
-                other,
-            };
+            let at = Premises::new(from, place, partner, other)?;
             how_part(alloc, bank, room, clauses, at, Lemma { keep, premises })
         }
     }

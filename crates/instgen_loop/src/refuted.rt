@@ -5,18 +5,19 @@ ghost use Rattle.inst_calculus.specs.Abstraction.{IsBot};
 ghost use Rattle.inst_calculus.specs.Axioms.{with_axioms};
 ghost use Rattle.cert_format.specs.Printable.{IsPrintableClause};
 ghost use Rattle.prop_logic.specs.Solving.{Refutes};
-ghost use Rattle.instgen_loop.specs.Endings.{IsEnding, IsRefuted};
+ghost use Rattle.instgen_loop.specs.Endings.{IsEndingAfter, IsRefuted, entries_left};
 ghost use Rattle.instgen_loop.specs.Lines.{AreLinesOf};
 ghost use Rattle.instgen_loop.specs.Loops.{IsSafe};
 ghost use Rattle.instgen_loop.specs.Outcomes.{IsRefutedRun};
 ghost use Rattle.instgen_loop.specs.Refuting.{refuted_from};
 ghost use Rattle.instgen_loop.specs.ShownRuns.{IsMadeOf, IsShownOf};
-ghost use Rattle.instgen_loop.specs.Running.{IsRunningFor};
+ghost use Rattle.instgen_loop.specs.Marks.{events_of};
+ghost use Rattle.instgen_loop.specs.Running.{IsRunningFor, events_so_far};
 ghost use Rattle.instgen_loop.specs.Starting.{IsOfProblem};
 
 use crate::derived::derive;
 use crate::ending::Ending;
-use crate::event_log::EventLog;
+use crate::event::Journal;
 use crate::hand_over::{Remains, base_of, hand_over};
 use crate::line_numbers::line_numbers;
 use crate::lines::ground_lines;
@@ -47,10 +48,10 @@ fn lines_of(
     alloc: Global,
     _p: &Problem,
     run: &mut RefutedRun,
-    _log: &EventLog,
+    _journal: &Journal,
 ) -> Result<GroundLineList, Memory>
-    requires refuted { IsRefuted _p.now.clauses _p.now.names run.old _log.now }
-    ensures refuted { OnOk result (IsRefuted _p.now.clauses _p.now.names run.new _log.now) }
+    requires refuted { IsRefuted _p.now.clauses _p.now.names run.old _journal.now }
+    ensures refuted { OnOk result (IsRefuted _p.now.clauses _p.now.names run.new _journal.now) }
     ensures lines { IfOk result (AreLinesOf _p.now.clauses run.new) }
 {
     let bot = run.abstraction.bot().clone()?;
@@ -80,14 +81,14 @@ fn shown_of<S: Solver>(
     p: &Problem,
     run: &mut RefutedRun,
     last: S,
-    log: &EventLog,
+    journal: &Journal,
 ) -> Result<Shown, Memory>
-    requires refuted { IsRefuted p.now.clauses p.now.names run.old log.now }
+    requires refuted { IsRefuted p.now.clauses p.now.names run.old journal.now }
     requires atoms { S.atoms last ≡ 0 }
     requires added { S.added last ≡ [] }
-    ensures shown { IfOk result (IsShownOf p.now.clauses p.now.names run.new log.now) }
+    ensures shown { IfOk result (IsShownOf p.now.clauses p.now.names run.new journal.now) }
 {
-    let grounds = lines_of(alloc, p, run, log)?;
+    let grounds = lines_of(alloc, p, run, journal)?;
     let bot = run.abstraction.bot().clone()?;
     derive(alloc, run, last, &grounds)?;
     let numbers = line_numbers(alloc, &run.abstraction, &run.literals, &grounds)?;
@@ -119,14 +120,14 @@ pub fn refutation_of<S: Solver>(
     p: &Problem,
     mut run: RefutedRun,
     last: S,
-    log: &EventLog,
+    journal: &Journal,
 ) -> Result<Refutation, Memory>
-    requires refuted { IsRefuted p.now.clauses p.now.names run log.now }
+    requires refuted { IsRefuted p.now.clauses p.now.names run journal.now }
     requires atoms { S.atoms last ≡ 0 }
     requires added { S.added last ≡ [] }
-    ensures refutation { IfOk result (λ r. IsRefutedRun p.now.clauses p.now.names r log.now) }
+    ensures refutation { IfOk result (λ r. IsRefutedRun p.now.clauses p.now.names r journal.now) }
 {
-    match shown_of(alloc, p, &mut run, last, log) {
+    match shown_of(alloc, p, &mut run, last, journal) {
         Ok(shown) => made_of(alloc, p, run.remains, shown),
         Err(Memory) => Err(Memory),
     }
@@ -140,7 +141,7 @@ fn refuted_run<S: Solver, I: PartnerIndex>(
     derivation: Derivation,
 ) -> Result<RefutedRun, Memory>
     ensures taken { IfOk result (λ r. r ≡ refuted_from run.old given derivation) }
-    ensures journal { OnOk result (run.new.journal ≡ run.old.journal) }
+    ensures log { OnOk result (run.new.log ≡ run.old.log) }
 {
     let none = Abstraction::new(alloc, run.ground.abstraction.bot().clone()?);
     let abstraction = replace(&mut run.ground.abstraction, none);
@@ -155,7 +156,7 @@ fn refuted_run<S: Solver, I: PartnerIndex>(
 }
 
 /// What the refutation is made of that the derivation gives. It takes the bank, the entries and their abstractions of the run, of
-/// which only the journal serves for anything after.
+/// which only the log serves for anything after.
 pub fn refuted_by<S: Solver, I: PartnerIndex>(
     alloc: Global,
     _p: &Problem,
@@ -171,8 +172,8 @@ pub fn refuted_by<S: Solver, I: PartnerIndex>(
     requires clauses { All IsPrintableClause _p.now.clauses }
     requires named { length _p.now.names ≡ length _p.now.clauses }
     requires readable { All (λ n. IsTrue (is_readable_name n)) _p.now.names }
-    ensures ending { IfOk result (λ e. IsEnding _p.now.clauses _p.now.names _budget e run.new.journal) }
-    ensures journal { OnOk result (run.new.journal ≡ run.old.journal) }
+    ensures ending { IfOk result (λ e. IsEndingAfter _p.now.clauses _p.now.names _budget e run.new.log) }
+    ensures events { IfOk result (λ e. events_of run.new.log (entries_left e) ≡ events_so_far run.old) }
 {
     let refuted = refuted_run(alloc, run, given, derivation)?;
     Ok(Ending::Refuted(refuted))

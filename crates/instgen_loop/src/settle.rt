@@ -116,7 +116,8 @@ fn accept<S: Solver, I: PartnerIndex>(
         &v,
     )?;
     select_true(alloc, run, partners, &v, &flips.numbers)?;
-    run.journal.push_solved(&flips.atoms)?;
+    let entries = run.entries.clauses.len();
+    run.log.push_solved(&flips.atoms, entries)?;
     run.ground.valuation = v;
     Ok(())
 }
@@ -146,7 +147,8 @@ fn stay<S: Solver, I: PartnerIndex>(
     )?;
     // No value changed.
     let flips = FlipList::new(alloc);
-    run.journal.push_solved(&flips)?;
+    let entries = run.entries.clauses.len();
+    run.log.push_solved(&flips, entries)?;
     Ok(())
 }
 

@@ -19,16 +19,15 @@ use crate::entries::Entries;
 use crate::event_log::EventLog;
 use crate::first_values::predicate_values;
 use crate::ground::Ground;
-use crate::origin::PackedOrigin;
+use crate::origin::{Origins, PackedOrigin};
 use crate::scratch::Scratch;
 use crate::selection::Selection;
-use crate::state::{Run, make_entry};
+use crate::state::{Run, append};
 use clause_form::long_tautology;
 use compact_lists::{FlatClauses, FlatLists};
 use equality_axioms::axioms_of;
 use global_subs::Known;
 use ground_abs::Abstraction;
-use indexmap::IndexMap;
 use inst_logic::{ClauseList, Memory, Problem, Sym};
 use instgen_select::Passive;
 use prop_logic::{Solver, Valuation};
@@ -56,7 +55,7 @@ fn no_entries<I: PartnerIndex>(alloc: Global, first: I) -> Entries<I>
 {
     Entries {
         bank: Bank::new(alloc),
-        clauses: IndexMap::new(alloc),
+        clauses: Origins::new(alloc),
         first,
         has_empty: false,
         longest: 0,
@@ -107,7 +106,7 @@ pub fn new_run<S: Solver, I: PartnerIndex>(
         selection: Selection::new(alloc),
         queue: passive(alloc, left),
         held: Vec::new(alloc),
-        journal: EventLog::new(alloc),
+        log: EventLog::new(alloc),
         bindings: Bindings::new(alloc),
         scratch: Scratch::new(alloc),
         left,
@@ -183,7 +182,7 @@ fn start_entry<S: Solver, I: PartnerIndex>(
         return Ok(());
     }
     let origin = PackedOrigin::input(k)?;
-    make_entry(run, clause, origin)?;
+    append(run, clause, origin)?;
     Ok(())
 }
 

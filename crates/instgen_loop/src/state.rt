@@ -6,12 +6,12 @@ ghost use Rattle.term_bank.specs.Forest.{clause_at, IsClauseOf};
 ghost use Rattle.cert_values.specs.Wholes.{IsWholeClause};
 ghost use Rattle.instgen_loop.specs.Clauses.{Item};
 ghost use Rattle.instgen_loop.specs.Loops.{IsSafe, Appends, KeepsLink};
-ghost use Rattle.instgen_loop.specs.FirstEntries.{MakesEntry};
 
 use crate::entries::{Entries, push_entry};
 use crate::event_log::EventLog;
 use crate::ground::{Ground, add_entry};
 use crate::origin::PackedOrigin;
+use crate::premises::Premises;
 use crate::scratch::Scratch;
 use crate::selection::Selection;
 use clause_form::{clause_size, greatest_variable};
@@ -24,16 +24,6 @@ use term_bank::{Bank, IdClause};
 use term_index::PartnerIndex;
 use unify_core::Bindings;
 
-/// A conclusion that did not fit into the budget: that of entry `from` at its literal `place` with entry `partner` at its literal
-/// `other`. All numbers count from 1.
-#[derive(Clone, Copy, Debug, PartialEq, Eq)]
-pub struct Held {
-    pub from: usize,
-    pub place: usize,
-    pub partner: usize,
-    pub other: usize,
-}
-
 /// What the loop keeps beside the indexes of selected literals.
 #[derive(Drop)]
 pub struct Run<S: Solver, I: PartnerIndex> {
@@ -43,8 +33,9 @@ pub struct Run<S: Solver, I: PartnerIndex> {
     pub known: Known<S>,
     pub selection: Selection,
     pub queue: Passive,
-    pub held: Vec<Held>,
-    pub journal: EventLog,
+    /// Of the conclusions that did not fit into the budget.
+    pub held: Vec<Premises>,
+    pub log: EventLog,
     pub bindings: Bindings,
     pub scratch: Scratch,
     /// What is left of the budget, in symbols. There is none on function-free problems.
@@ -62,30 +53,6 @@ pub fn variable_count(bank: &Bank, clause: &IdClause) -> usize
 }
 
 /// Makes a new clause with its origin an entry, which waits: the one place at which entries are made.
-pub fn make_entry<S: Solver, I: PartnerIndex>(
-    run: &mut Run<S, I>,
-    clause: IdClause,
-    origin: PackedOrigin,
-) -> Result<(), Memory>
-    requires safe { IsSafe S.atoms I.pairs I.fits run.old }
-    requires whole { IsWholeClause run.old.entries.bank clause }
-    requires canonical { IsCanonical (clause_at run.old.entries.bank clause) }
-    requires new { (e : Item) → Contains run.old.entries.clauses.entries e → ¬ (e.0 ≡ clause) }
-    requires bounded { length clause ≤ run.old.entries.longest }
-    ensures safe { OnOk result (IsSafe S.atoms I.pairs I.fits run.new) }
-    ensures makes { OnOk result (MakesEntry run.old run.new clause origin) }
-    ensures linked { OnOk result (KeepsLink S.atoms S.added run.old run.new) }
-{
-    let number = run.entries.clauses.len() + 1;
-    let size = clause_size(&run.entries.bank, &clause);
-    let variables = variable_count(&run.entries.bank, &clause);
-    add_entry(&mut run.entries.bank, &mut run.ground, &clause)?;
-    run.known.entry(&run.entries.bank, &clause)?;
-    run.queue.put(number, size, variables)?;
-    push_entry(&mut run.entries, clause, origin)
-}
-
-/// Appends a new clause that was inferred.
 pub fn append<S: Solver, I: PartnerIndex>(
     run: &mut Run<S, I>,
     clause: IdClause,
@@ -100,8 +67,11 @@ pub fn append<S: Solver, I: PartnerIndex>(
     ensures appends { OnOk result (Appends run.old run.new clause origin) }
     ensures linked { OnOk result (KeepsLink S.atoms S.added run.old run.new) }
 {
-    let told = origin.clone()?;
-    make_entry(run, clause, origin)?;
-    run.journal.push_inferred(told)?;
-    Ok(())
+    let number = run.entries.clauses.len() + 1;
+    let size = clause_size(&run.entries.bank, &clause);
+    let variables = variable_count(&run.entries.bank, &clause);
+    add_entry(&mut run.entries.bank, &mut run.ground, &clause)?;
+    run.known.entry(&run.entries.bank, &clause)?;
+    run.queue.put(number, size, variables)?;
+    push_entry(&mut run.entries, clause, origin)
 }

@@ -1,6 +1,6 @@
 use Rattle.std.proofs.Common.{◌∙◌}
 use Rattle.inst_calculus.specs.Axioms.{with_axioms}
-use Rattle.instgen_loop.proofs.Ended.{held_conclude, rest_read, solved_read, problem_read, journal_read}
+use Rattle.instgen_loop.proofs.Ended.{held_conclude, rest_read, solved_read, problem_read, events_read}
 use Rattle.instgen_loop.proofs.finish.finish.Goals as goal
 
 pub decide-requires-clause-held : goal.decide-requires-clause-held
@@ -24,8 +24,8 @@ stopped_ending-requires-clause-running g c = solved_read c.args.run.now c.decide
 pub stopped_ending-requires-clause-problem : goal.stopped_ending-requires-clause-problem
 stopped_ending-requires-clause-problem g c = problem_read c.args.run.now c.decide.new.run c.in_ok-decide.ensures.reads c.args.given c.args.p.now.clauses c.requires.problem
 
-pub returns-in-None-clause-journal : goal.returns-in-None-clause-journal
-returns-in-None-clause-journal g c = c.saturated_ending.ensures.journal ∙ journal_read c.args.run.now c.decide.new.run c.in_ok-decide.ensures.reads
+pub returns-in-None-clause-events : goal.returns-in-None-clause-events
+returns-in-None-clause-events g c = c.saturated_ending.ensures.events ∙ events_read c.args.run.now c.decide.new.run c.in_ok-decide.ensures.reads
 
-pub returns-in-Some-clause-journal : goal.returns-in-Some-clause-journal
-returns-in-Some-clause-journal g c = c.stopped_ending.ensures.journal ∙ journal_read c.args.run.now c.decide.new.run c.in_ok-decide.ensures.reads
+pub returns-in-Some-clause-events : goal.returns-in-Some-clause-events
+returns-in-Some-clause-events g c = c.stopped_ending.ensures.events ∙ events_read c.args.run.now c.decide.new.run c.in_ok-decide.ensures.reads

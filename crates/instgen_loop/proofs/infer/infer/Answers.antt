@@ -9,6 +9,8 @@ use Rattle.unify_core.specs.Sides.{Binding, IsResolvedBy, of_side}
 use Rattle.inst_calculus.proofs.Items.{same_item}
 use Rattle.instgen_loop.specs.Clauses.{Item}
 use Rattle.instgen_loop.specs.Loops.{items, IsUnified}
+use Rattle.instgen_loop.specs.Running.{AppendsUncovered}
+use Rattle.instgen_loop.specs.declared.premises.Premises.{Premises}
 use Rattle.instgen_loop.proofs.Selected.{literal_of, place_positive}
 use Rattle.instgen_loop.proofs.Works.{goes_on}
 use Rattle.inst_calculus.specs.Saturation.{IsCovered}
@@ -190,7 +192,7 @@ returns-clause-running g c = λ may bot cs budget v h.
     let (item, at, sized) = c.in_ok-size.ensures.size k (sym c.in_ok-conclusion.ensures.left ∙ e) in
     size_concluded r1 c.args.side c.args.from c.args.partner c.in_ok-size.size m item at sized ∙ ap (λ (x : TreeClause). min (clause_size (canonical_form x)) (2 ^ 64 - 1)) (sym p))
     (λ k e. fits_some r1.left c.in_ok-size.size k (c.fits.ensures.yes (search rules)) (sym c.in_ok-conclusion.ensures.left ∙ e))
-    c.in_ok-append_uncovered.ensures.step
+    (subst (λ (at : Premises). AppendsUncovered r2 c.append_uncovered.new.run c.in_ok-conclusion.conclusion at c.len-len.result c.in_ok-size.size) c.in_ok-at.ensures c.in_ok-append_uncovered.ensures.step)
     bot cs budget v
     (running_read S.atoms S.added r1 r2 c.in_ok-conclusion.ensures.reads c.in_ok-size.ensures.safe.entries bot cs budget v
     (running_read S.atoms S.added run r1 c.in_ok-size.ensures.reads c.requires.safe.entries bot cs budget v h))

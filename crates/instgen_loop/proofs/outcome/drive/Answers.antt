@@ -35,13 +35,10 @@ pub returns-in-Refuted-clause-appended : goal.returns-in-Refuted-clause-appended
 returns-in-Refuted-clause-appended g c = λ f.
     let run = c.cycle.new.run in
     let clauses = c.args.p.now.clauses in
-    subst (λ (js : List Event). appended_count js ≤ suc c.args.budget) (sym c.in_ok-ending-in-Refuted.ensures.journal) (appended_within g.S.Solver.atoms g.S.Solver.added run clauses c.args.budget c.in_ok-derivation.ensures.running f)
+    subst (λ (js : List Event). appended_count js ≤ suc c.args.budget) (sym c.in_ok-ending-in-Refuted.ensures.events) (appended_within g.S.Solver.atoms g.S.Solver.added run clauses c.args.budget c.in_ok-derivation.ensures.running f)
 
 pub returns-in-Finished-clause-appended : goal.returns-in-Finished-clause-appended
 returns-in-Finished-clause-appended g c = λ f.
     let run = c.cycle.new.run in
     let clauses = c.args.p.now.clauses in
-    subst (λ (js : List Event). appended_count js ≤ suc c.args.budget) (sym c.in_ok-ending-in-Finished.ensures.journal) (appended_within g.S.Solver.atoms g.S.Solver.added run clauses c.args.budget c.in_ok-derivation.ensures.running f)
-
-pub returns-clause-appended : goal.returns-clause-appended
-returns-clause-appended g c = appended_within g.S.Solver.atoms g.S.Solver.added c.cycle.new.run c.args.p.now.clauses c.args.budget c.in_ok-derivation.ensures.running
+    subst (λ (js : List Event). appended_count js ≤ suc c.args.budget) (sym c.in_ok-ending-in-Finished.ensures.events) (appended_within g.S.Solver.atoms g.S.Solver.added run clauses c.args.budget c.in_ok-derivation.ensures.running f)

@@ -14,7 +14,7 @@ pub returns-in-Ok : goal.returns-in-Ok
 returns-in-Ok g c =
     let clauses = c.args.p.now.clauses in
     let names = c.args.p.now.names in
-    let journal = c.args.log.now in
+    let journal = c.args.journal.now in
     let r = c.shown_of.new.run in
     let s = c.in-Ok.shown in
     let h = c.in-Ok.ensures.shown in

@@ -7,11 +7,11 @@ use Rattle.instgen_loop.proofs.refuted.shown_of.Goals as goal
 
 pub derive-requires-clause-refuted : goal.derive-requires-clause-refuted
 derive-requires-clause-refuted g c =
-    refuted_lines c.args.p.now.clauses c.args.p.now.names c.lines_of.new.run c.args.log.now c.in_ok-grounds.ensures.refuted c.in_ok-grounds.grounds c.in_ok-grounds.ensures.lines
+    refuted_lines c.args.p.now.clauses c.args.p.now.names c.lines_of.new.run c.args.journal.now c.in_ok-grounds.ensures.refuted c.in_ok-grounds.grounds c.in_ok-grounds.ensures.lines
 
 pub derive-requires-clause-carried : goal.derive-requires-clause-carried
 derive-requires-clause-carried g c =
-    carried c.args.p.now.clauses c.args.p.now.names c.lines_of.new.run c.args.log.now c.in_ok-grounds.ensures.refuted c.in_ok-grounds.grounds c.in_ok-grounds.ensures.lines
+    carried c.args.p.now.clauses c.args.p.now.names c.lines_of.new.run c.args.journal.now c.in_ok-grounds.ensures.refuted c.in_ok-grounds.grounds c.in_ok-grounds.ensures.lines
 
 pub ground_steps-requires-clause-within : goal.ground_steps-requires-clause-within
 ground_steps-requires-clause-within g c =
@@ -22,7 +22,7 @@ pub returns : goal.returns
 returns g c =
     let clauses = c.args.p.now.clauses in
     let names = c.args.p.now.names in
-    let journal = c.args.log.now in
+    let journal = c.args.journal.now in
     let r = c.lines_of.new.run in
     let later = c.derive.new.run.remains.bank in
     let d = c.in_ok-derive.ensures in

@@ -1,6 +1,7 @@
-use Rattle.std.proofs.Common.{◌≤◌, ◌<◌, All, sym, subst, length}
+use Rattle.std.proofs.Common.{◌≤◌, ◌<◌, ◌∙◌, All, ap, sym, subst, length}
 use Rattle.inst_logic.specs.Truth.{IsTrueClause}
 use Rattle.prop_logic.specs.Valuation.{IsHeld, AreChanges}
+use Rattle.instgen_loop.specs.Logs.{with_solve}
 use Rattle.instgen_loop.proofs.Settled.{accepted_orderly, accepted_solves, accepted_users, accepted_whole}
 use Rattle.instgen_loop.proofs.settle.accept.Goals as goal
 
@@ -25,17 +26,17 @@ returns-clause-orderly g c =
 
 pub returns-clause-users : goal.returns-clause-users
 returns-clause-users g c =
-    accepted_users g.S.Solver.atoms g.S.Solver.added c.args.run.now c.select_true.new.run c.args.v c.in_ok-select_true.ensures.settles c.push_solved.new.self c.in_ok-flips.flips.atoms c.in_ok-push_solved.ensures c.in_ok-flips.ensures.ids c.in_ok-flips.ensures.flips
+    accepted_users g.S.Solver.atoms g.S.Solver.added c.args.run.now c.select_true.new.run c.args.v c.in_ok-select_true.ensures.settles c.push_solved.new.self c.in_ok-flips.flips.atoms (c.in_ok-push_solved.ensures ∙ ap (with_solve c.select_true.new.run.log c.in_ok-flips.flips.atoms) c.len-entries.ensures.len) c.in_ok-flips.ensures.ids c.in_ok-flips.ensures.flips
     (subst (λ n. length c.args.v ≤ n) c.requires.orderly.safe.count c.requires.satisfies.within)
 
 pub returns-clause-whole : goal.returns-clause-whole
 returns-clause-whole g c =
-    accepted_whole g.S.Solver.atoms g.S.Solver.added c.args.run.now c.select_true.new.run c.args.v c.in_ok-select_true.ensures.settles c.push_solved.new.self c.in_ok-flips.flips.atoms c.in_ok-push_solved.ensures c.in_ok-flips.ensures.ids c.in_ok-flips.ensures.flips
+    accepted_whole g.S.Solver.atoms g.S.Solver.added c.args.run.now c.select_true.new.run c.args.v c.in_ok-select_true.ensures.settles c.push_solved.new.self c.in_ok-flips.flips.atoms (c.in_ok-push_solved.ensures ∙ ap (with_solve c.select_true.new.run.log c.in_ok-flips.flips.atoms) c.len-entries.ensures.len) c.in_ok-flips.ensures.ids c.in_ok-flips.ensures.flips
     (subst (λ n. length c.args.v ≤ n) c.requires.orderly.safe.count c.requires.satisfies.within)
 
 pub returns-clause-solves : goal.returns-clause-solves
 returns-clause-solves g c = (
   c.in_ok-flips.flips.atoms,
-  accepted_solves g.S.Solver.atoms g.S.Solver.added c.args.run.now c.select_true.new.run c.args.v c.in_ok-select_true.ensures.settles c.push_solved.new.self c.in_ok-flips.flips.atoms c.in_ok-push_solved.ensures c.in_ok-flips.ensures.ids c.in_ok-flips.ensures.flips
+  accepted_solves g.S.Solver.atoms g.S.Solver.added c.args.run.now c.select_true.new.run c.args.v c.in_ok-select_true.ensures.settles c.push_solved.new.self c.in_ok-flips.flips.atoms (c.in_ok-push_solved.ensures ∙ ap (with_solve c.select_true.new.run.log c.in_ok-flips.flips.atoms) c.len-entries.ensures.len) c.in_ok-flips.ensures.ids c.in_ok-flips.ensures.flips
       (subst (λ n. length c.args.v ≤ n) c.requires.orderly.safe.count c.requires.satisfies.within),
 )

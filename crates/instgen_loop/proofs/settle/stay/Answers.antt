@@ -1,5 +1,5 @@
-use Rattle.std.proofs.Common.{◌≤◌, ◌++◌, ◌∷◌, ◌∙◌, [], ℕ, subst, length, ap}
-use Rattle.instgen_loop.specs.declared.event.Event.TheVariants.{Solved}
+use Rattle.std.proofs.Common.{◌≤◌, ◌∙◌, ℕ, subst, length, ap₂}
+use Rattle.instgen_loop.specs.Logs.{with_solve}
 use Rattle.instgen_loop.proofs.Settled.{stays_under_way, stays_selectable, stays_within, stays_settled, stays_orderly, stays_solves}
 use Rattle.instgen_loop.proofs.settle.stay.Goals as goal
 
@@ -58,4 +58,4 @@ returns-clause-solves g c =
     stays_solves g.S.Solver.atoms g.I.PartnerIndex.pairs g.I.PartnerIndex.fits g.S.Solver.added c.args.run.now c.args._partners.now c.requires.orderly c.requires.users c.requires.grounded
     c.make_users.new.self u.places (subst (λ (n : ℕ). n ≤ length c.make_users.new.self.users) c.len.ensures.len u.count) u.users
     c.place_new.new.selection w.grows.0 w.grows.1 w.under_way w.numbers w.whole c.push_solved.new.self
-    (c.in_ok-push_solved.ensures ∙ ap (λ fs. c.args.run.now.journal ++ Solved fs ∷ []) c.new-flips.ensures)
+    (c.in_ok-push_solved.ensures ∙ ap₂ (λ fs n. with_solve c.args.run.now.log fs n) c.new-flips.ensures c.len-entries.ensures.len)

@@ -9,7 +9,7 @@ use Rattle.instgen_loop.specs.Grounds.{IsLinked}
 use Rattle.instgen_loop.specs.Loops.{IsLiteralPlace}
 use Rattle.instgen_loop.proofs.Grown.{one_more_entry, clauses_pushed, place_kept, waiting_pushed}
 use Rattle.instgen_loop.proofs.Firsts.{firsts_kept}
-use Rattle.instgen_loop.proofs.state.make_entry.Goals as goal
+use Rattle.instgen_loop.proofs.state.append.Goals as goal
 
 -- what holds after a success by what else holds after it
 of_two : {T E : Type 0} (r : Result T E) (A B Q : Type 0) → (A → B → Q) → OnOk r A → OnOk r B → OnOk r Q
@@ -57,8 +57,8 @@ returns-clause-safe g c =
       known = c.in_ok-entry.ensures.added ∙ ap (λ (cs : List (List (Signed ℕ))). cs ++ c.args.clause ∷ []) c.requires.safe.known ∙ sym (ap (map (λ (e : Item). e.0)) pushed ∙ map_append (λ (e : Item). e.0) es (item ∷ []));
     }) c.push_entry.ensures.firsts c.push_entry.ensures.fits c.push_entry.ensures.bank c.push_entry.ensures.pushed
 
-pub returns-clause-makes : goal.returns-clause-makes
-returns-clause-makes g c =
+pub returns-clause-appends : goal.returns-clause-appends
+returns-clause-appends g c =
     let old = c.args.run.now in
     let es = old.entries.clauses.entries in
     let add = c.in_ok-add_entry.ensures in
@@ -76,7 +76,7 @@ returns-clause-makes g c =
       literals = add.literals;
       selection = refl;
       held = refl;
-      journal = refl;
+      log = refl;
       left = refl;
       bindings = refl;
       longest = longest;
