@@ -15,7 +15,7 @@ use Rattle.instgen_loop.specs.declared.queue.Partners.{Partners}
 use Rattle.instgen_loop.specs.Clauses.{Item, entries_in}
 use Rattle.instgen_loop.specs.Deciding.{IsSomeConclusion}
 use Rattle.instgen_loop.specs.Ending.{IsAtRest}
-use Rattle.instgen_loop.specs.Loops.{items, held_in, held_of, IsSafe}
+use Rattle.instgen_loop.specs.Loops.{items, held_in, held_of, IsConsistent}
 use Rattle.instgen_loop.specs.Running.{entries_of, events_so_far, IsSolvedFor, Reads}
 use Rattle.instgen_loop.specs.Starting.{IsOfProblem}
 use Rattle.instgen_loop.specs.Tended.{AreTended, indexed_of}
@@ -42,7 +42,7 @@ module _ {S I C : Type 0} (old new : Run S I C) (reads : Reads old new) where
     worked = transport (λ (es : List Entry). AreWorked es old.selection.places (held_of old) (indexed_of pairs p)) (sym same) h.worked;
   })
 
-  pub rest_read : (atoms : S → ℕ) (pairs : I → List Pair) (fits : Forest → I → Type 0) (p : Partners I C) → IsSafe atoms pairs fits old → IsSafe atoms pairs fits new → AreTended pairs old p
+  pub rest_read : (atoms : S → ℕ) (pairs : I → List Pair) (fits : Forest → I → Type 0) (p : Partners I C) → IsConsistent atoms pairs fits old → IsConsistent atoms pairs fits new → AreTended pairs old p
       → old.queue.items ≡ [] → length old.selection.places ≡ length (items old) → IsAtRest atoms pairs fits new p
   rest_read atoms pairs fits p before safe tended rests whole = record {
     safe = safe;
@@ -51,7 +51,7 @@ module _ {S I C : Type 0} (old new : Run S I C) (reads : Reads old new) where
     whole = ap (λ (r : Run S I C). length r.selection.places) reads.rest ∙ whole ∙ sym (ap (λ (r : Run S I C). length (items r)) reads.rest);
   }
 
-  pub solved_read : (atoms : S → ℕ) (added : S → List (List (Signed ℕ))) (pairs : I → List Pair) (fits : Forest → I → Type 0) (cs : List TreeClause) (budget : ℕ) → IsSafe atoms pairs fits old
+  pub solved_read : (atoms : S → ℕ) (added : S → List (List (Signed ℕ))) (pairs : I → List Pair) (fits : Forest → I → Type 0) (cs : List TreeClause) (budget : ℕ) → IsConsistent atoms pairs fits old
       → IsSolvedFor atoms added old cs budget → IsSolvedFor atoms added new cs budget
   solved_read atoms added pairs fits cs budget safe (bot, v, h) = (bot, v, running_read atoms added old new reads safe.entries bot cs budget v h)
 

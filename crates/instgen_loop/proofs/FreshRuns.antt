@@ -30,7 +30,7 @@ use Rattle.instgen_loop.specs.declared.state.Run.{Run}
 use Rattle.instgen_loop.specs.declared.premises.Premises.{Premises}
 use Rattle.instgen_loop.specs.Clauses.{Item, AreEntries, AreFirsts, entries_in, clauses_in}
 use Rattle.instgen_loop.specs.Grounds.{IsUsed}
-use Rattle.instgen_loop.specs.Loops.{items, after, held_in, IsSafe}
+use Rattle.instgen_loop.specs.Loops.{items, after, held_in, IsConsistent}
 use Rattle.instgen_loop.specs.Logs.{Log}
 use Rattle.instgen_loop.specs.Marks.{inferred, origins_of, events_of, IsLogOf}
 use Rattle.instgen_loop.specs.Running.{IsRunning, IsRunningFor, IsRunningWith, IsEventOf, event_in, entries_of, events_so_far, state_of}
@@ -77,7 +77,7 @@ module _ {S I C : Type 0} (atoms : S → ℕ) (added : S → List (List (Signed 
     };
   })
 
-  pub fresh_safe : (fits : Forest → I → Type 0) → ((f : Forest) (s : I) → pairs s ≡ [] → fits f s) → (r : Run S I C) → IsFresh atoms added pairs r → IsSafe atoms pairs fits r
+  pub fresh_safe : (fits : Forest → I → Type 0) → ((f : Forest) (s : I) → pairs s ≡ [] → fits f s) → (r : Run S I C) → IsFresh atoms added pairs r → IsConsistent atoms pairs fits r
   fresh_safe fits empty r h = record {
     entries = transport (AreEntries r.entries.bank) (sym h.entries) (record {
       formed = h.bank;

@@ -40,7 +40,7 @@ use Rattle.instgen_loop.specs.declared.entries.Entries.{Entries}
 use Rattle.instgen_loop.specs.Clauses.{Item, AreEntries, AreFirsts, entries_in, clauses_in}
 use Rattle.instgen_loop.proofs.Firsts.{firsts_kept}
 use Rattle.instgen_select.specs.Queues.{numbers}
-use Rattle.instgen_loop.specs.Loops.{items, IsSafe, IsUnified, IsSideWorked, Goes, Appends}
+use Rattle.instgen_loop.specs.Loops.{items, IsConsistent, IsUnified, IsSideWorked, Goes, Appends}
 use Rattle.instgen_loop.specs.Running.{Reads}
 use Rattle.term_bank.proofs.Cuts.{extends_cut}
 use Rattle.term_bank.proofs.Growth.{ids_extend, map_extends}
@@ -105,8 +105,8 @@ premise_bounded h (suc i) e at = h.bounded i e at
 pub item_later : {S I C : Type 0} (old new : Run S I C) (n : ℕ) (e : Item) → Goes old new → at_number (items old) n ≡ Some e → at_number (items new) n ≡ Some e
 item_later old new n e goes at = let (more, q) = goes.entries in ap (λ xs. at_number xs n) q ∙ at_number_append (items old) more n e at
 
-pub safe_grown : {S I C : Type 0} (atoms : S → ℕ) (pairs : I → List Pair) (fits : Forest → I → Type 0) (r : Run S I C) (g : Forest) → IsSafe atoms pairs fits r → Extends r.entries.bank g → AreFormed g → fits g r.entries.first
-    → IsSafe atoms pairs fits (record r { entries = record r.entries { bank = g } })
+pub safe_grown : {S I C : Type 0} (atoms : S → ℕ) (pairs : I → List Pair) (fits : Forest → I → Type 0) (r : Run S I C) (g : Forest) → IsConsistent atoms pairs fits r → Extends r.entries.bank g → AreFormed g → fits g r.entries.first
+    → IsConsistent atoms pairs fits (record r { entries = record r.entries { bank = g } })
 safe_grown atoms pairs fits r g h e formed stored = record {
   entries = entries_kept r.entries.bank g e formed (items r) h.entries;
   firsts = firsts_kept pairs r.entries g (items r) e h.entries h.firsts;
@@ -124,11 +124,11 @@ safe_grown atoms pairs fits r g h e formed stored = record {
 }
 
 -- the same where bindings were made too
-pub safe_read : {S I C : Type 0} (atoms : S → ℕ) (pairs : I → List Pair) (fits : Forest → I → Type 0) (old new : Run S I C) → IsSafe atoms pairs fits old → Reads old new → AreFormed new.entries.bank → fits new.entries.bank old.entries.first
-    → IsSafe atoms pairs fits new
+pub safe_read : {S I C : Type 0} (atoms : S → ℕ) (pairs : I → List Pair) (fits : Forest → I → Type 0) (old new : Run S I C) → IsConsistent atoms pairs fits old → Reads old new → AreFormed new.entries.bank → fits new.entries.bank old.entries.first
+    → IsConsistent atoms pairs fits new
 safe_read atoms pairs fits old new h reads formed stored =
     let s = safe_grown atoms pairs fits old new.entries.bank h reads.bank formed stored in
-    transport (λ r. IsSafe atoms pairs fits r) (sym reads.rest) (record {
+    transport (λ r. IsConsistent atoms pairs fits r) (sym reads.rest) (record {
       entries = s.entries;
       firsts = s.firsts;
       stored = s.stored;

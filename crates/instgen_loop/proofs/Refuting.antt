@@ -50,7 +50,7 @@ use Rattle.instgen_loop.specs.Clauses.{Item, AreEntries, entries_in, clauses_in}
 use Rattle.instgen_loop.specs.Endings.{IsRefuted, IsEndingAfter}
 use Rattle.instgen_loop.specs.Grounds.{IsUsed}
 use Rattle.instgen_loop.specs.Lines.{given_of, given_trees, HasClauses, IsLineIn, AreLinesOf}
-use Rattle.instgen_loop.specs.Loops.{IsSafe}
+use Rattle.instgen_loop.specs.Loops.{IsConsistent}
 use Rattle.instgen_loop.specs.Records.{IsConcluded, AreConcluded, AreRecordsOf}
 use Rattle.instgen_loop.specs.Refuting.{member_of, refuted_from}
 use Rattle.instgen_loop.specs.Running.{event_in, IsEventOf, state_of, IsRunning, IsRunningFor, events_so_far}
@@ -70,7 +70,7 @@ whole_items f es h = in_all (λ (m : Member). IsWholeClause f m.clause) (map mem
     }))
 
 pub refuted_ending : {S I C : Type 0} (atoms : S → ℕ) (added : S → List (List (Signed ℕ))) (pairs : I → List Pair) (fits : Forest → I → Type 0) (r : Run S I C) (g : Given) (clauses : List TreeClause) (names : List (List ℕ))
-    (budget : ℕ) (steps : List NumberedStep) → IsSafe atoms pairs fits r → IsRunningFor atoms added r (with_axioms clauses) budget → Refutes (atoms r.ground.solver) (added r.ground.solver) [] [] steps
+    (budget : ℕ) (steps : List NumberedStep) → IsConsistent atoms pairs fits r → IsRunningFor atoms added r (with_axioms clauses) budget → Refutes (atoms r.ground.solver) (added r.ground.solver) [] [] steps
     → IsOfProblem r g clauses → All IsPrintableClause clauses → length names ≡ length clauses → All (λ n. IsTrue (is_readable_name n)) names → (x : RefutedRun) (log : Log) → x ≡ refuted_from r g steps → log ≡ r.log
     → IsEndingAfter clauses names budget (Refuted x) log
 refuted_ending atoms added pairs fits r g clauses names budget steps safe (constant, v, b, k) refutes problem printable count readable x log e q =

@@ -10,7 +10,7 @@ use Rattle.instgen_loop.specs.declared.state.Run.{Run}
 use Rattle.instgen_loop.specs.declared.queue.Partners.{Partners}
 use Rattle.engine_laws.specs.Pairs.{AreQueuedOrIndexed}
 use Rattle.instgen_loop.specs.Clauses.{AreEntries}
-use Rattle.instgen_loop.specs.Loops.{items, IsSafe, IsStored, ArePartners, AreWaiting, AreReady, Goes, IsSigned, after}
+use Rattle.instgen_loop.specs.Loops.{items, IsConsistent, IsStored, ArePartners, AreWaiting, AreReady, Goes, IsSigned, after}
 use Rattle.instgen_loop.specs.Tended.{AreTended, AreOnce, indexed_of}
 use Rattle.instgen_loop.proofs.Works.{selected_stays}
 use Rattle.instgen_loop.proofs.Selected.{same_places}
@@ -91,7 +91,7 @@ module _ {S I C : Type 0} (pairs : I → List Pair) (fits : Forest → I → Typ
     fewer : (P : ℕ → Type 0) → All P (numbers r.queue.items) → All P (numbers q.items)
     fewer P h = in_all P (numbers q.items) (λ m i. all_in P (numbers r.queue.items) h m (contains_in m (numbers r.queue.items) (kept r.queue.items q.items n picked m (in_contains m (numbers q.items) i))))
 
-    pub safe_picked : (atoms : S → ℕ) → IsSafe atoms pairs fits r → IsSafe atoms pairs fits (record r { queue = q })
+    pub safe_picked : (atoms : S → ℕ) → IsConsistent atoms pairs fits r → IsConsistent atoms pairs fits (record r { queue = q })
     safe_picked atoms h = record {
       entries = h.entries;
       firsts = h.firsts;
@@ -135,7 +135,7 @@ module _ {S I C : Type 0} (pairs : I → List Pair) (fits : Forest → I → Typ
 
     -- of the same entries
     module _ (same : q.items ≡ r.queue.items) where
-      pub safe_requeued : (atoms : S → ℕ) → IsSafe atoms pairs fits r → IsSafe atoms pairs fits (record r { queue = q })
+      pub safe_requeued : (atoms : S → ℕ) → IsConsistent atoms pairs fits r → IsConsistent atoms pairs fits (record r { queue = q })
       safe_requeued atoms h = record {
         entries = h.entries;
         firsts = h.firsts;

@@ -7,13 +7,13 @@ use Rattle.instgen_loop.specs.declared.start.Given.{Given}
 use Rattle.instgen_loop.specs.declared.state.Run.{Run}
 use Rattle.instgen_loop.specs.declared.finish.SettledRun.{SettledRun}
 use Rattle.instgen_loop.specs.declared.queue.Partners.{Partners}
-use Rattle.instgen_loop.specs.Loops.{items, IsSafe}
+use Rattle.instgen_loop.specs.Loops.{items, IsConsistent}
 use Rattle.instgen_loop.specs.Refuting.{remains_of, base_from}
 use Rattle.instgen_loop.specs.Tended.{AreTended}
 
 -- nothing waits, each entry has a place, and what is indexed is worked
 pub record IsAtRest {S I C : Type 0} (atoms : S → ℕ) (pairs : I → List Pair) (fits : Forest → I → Type 0) (r : Run S I C) (p : Partners I C) : Type 0 where
-  pub safe : IsSafe atoms pairs fits r
+  pub safe : IsConsistent atoms pairs fits r
   pub tended : AreTended pairs r p
   pub rests : r.queue.items ≡ []
   pub whole : length r.selection.places ≡ length (items r)

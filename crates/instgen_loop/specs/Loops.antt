@@ -41,7 +41,7 @@ pub record IsLiteralPlace (es : List Item) (places : List ℕ) (i : ℕ) : Type 
   pub literal_at : at_number item.0 place ≡ Some literal
 
 -- What each call on a run needs: ids are ids, the indexes and the solvers fit the entries, and numbers name entries.
-pub record IsSafe {S I C : Type 0} (atoms : S → ℕ) (pairs : I → List Pair) (fits : Forest → I → Type 0) (r : Run S I C) : Type 0 where
+pub record IsConsistent {S I C : Type 0} (atoms : S → ℕ) (pairs : I → List Pair) (fits : Forest → I → Type 0) (r : Run S I C) : Type 0 where
   pub entries : AreEntries r.entries.bank (items r)
   pub firsts : AreFirsts pairs r.entries (items r)
   pub stored : fits r.entries.bank r.entries.first

@@ -10,7 +10,7 @@ use Rattle.instgen_select.specs.Queues.{numbers}
 use Rattle.instgen_loop.specs.declared.state.Run.{Run}
 use Rattle.instgen_loop.specs.declared.queue.Partners.{Partners}
 use Rattle.instgen_loop.specs.Clauses.{Item}
-use Rattle.instgen_loop.specs.Loops.{items, IsSafe, ArePartners}
+use Rattle.instgen_loop.specs.Loops.{items, IsConsistent, ArePartners}
 use Rattle.instgen_loop.specs.Choosing.{AreNumbersPlaced}
 use Rattle.instgen_loop.specs.Running.{IsRunningFor}
 use Rattle.instgen_loop.specs.Selections.{AreUsers}
@@ -27,7 +27,7 @@ pub record AreSelectable {S I C : Type 0} (r : Run S I C) (bits : List Bool) : T
 
 -- the run and its indexes fit each other, and what is indexed is worked
 pub record IsOrderly {S I C : Type 0} (atoms : S → ℕ) (pairs : I → List Pair) (fits : Forest → I → Type 0) (r : Run S I C) (p : Partners I C) : Type 0 where
-  pub safe : IsSafe atoms pairs fits r
+  pub safe : IsConsistent atoms pairs fits r
   pub partners : ArePartners pairs fits r p
   pub tended : AreTended pairs r p
 

@@ -5,7 +5,7 @@ ghost use Rattle.term_bank.specs.Forest.{Extends};
 ghost use Rattle.inst_logic.specs.WellFormed.{AreFormedClauses};
 ghost use Rattle.inst_calculus.specs.Axioms.{with_axioms};
 ghost use Rattle.prop_logic.specs.Solving.{Refutes};
-ghost use Rattle.instgen_loop.specs.Loops.{IsSafe, items, ArePartners};
+ghost use Rattle.instgen_loop.specs.Loops.{IsConsistent, items, ArePartners};
 ghost use Rattle.instgen_loop.specs.Selections.{AreUsers};
 ghost use Rattle.instgen_loop.specs.Tended.{AreTended};
 ghost use Rattle.instgen_loop.specs.Stops.{IfFinished, IfRefuted, IsNotGivenUp};
@@ -60,13 +60,13 @@ pub fn cycle<S: Solver, I: PartnerIndex>(
     _budget: u64,
     most_entries: Option<usize>,
 ) -> Result<Stop, Memory>
-    requires safe { IsSafe S.atoms I.pairs I.fits run.old }
+    requires safe { IsConsistent S.atoms I.pairs I.fits run.old }
     requires partners { ArePartners I.pairs I.fits run.old partners.old }
     requires tended { AreTended I.pairs run.old partners.old }
     requires users { AreUsers run.old.ground.literals run.old.selection }
     requires running { IsRunningFor S.atoms S.added run.old (with_axioms _p.now.clauses) _budget }
     requires formed { AreFormedClauses (with_axioms _p.now.clauses) }
-    ensures safe { OnOk result (IsSafe S.atoms I.pairs I.fits run.new) }
+    ensures safe { OnOk result (IsConsistent S.atoms I.pairs I.fits run.new) }
     ensures partners { OnOk result (ArePartners I.pairs I.fits run.new partners.new) }
     ensures tended { OnOk result (AreTended I.pairs run.new partners.new) }
     ensures users { OnOk result (AreUsers run.new.ground.literals run.new.selection) }

@@ -3,7 +3,7 @@ ghost use Rattle.std.specs.Prelude.{◌≡◌, [], length, Some, None, All, IsTr
 ghost use Rattle.inst_logic.specs.Printing.{is_readable_name};
 ghost use Rattle.inst_calculus.specs.Axioms.{with_axioms};
 ghost use Rattle.cert_format.specs.Printable.{IsPrintableClause};
-ghost use Rattle.instgen_loop.specs.Loops.{IsSafe, items};
+ghost use Rattle.instgen_loop.specs.Loops.{IsConsistent, items};
 ghost use Rattle.instgen_loop.specs.Deciding.{IsDecision, IsLeastOpen};
 ghost use Rattle.instgen_loop.specs.Ending.{IsAtRest, settled_from, saturation_from};
 ghost use Rattle.instgen_loop.specs.Endings.{IsEndingAfter, entries_left};
@@ -12,9 +12,9 @@ ghost use Rattle.instgen_loop.specs.Running.{IsSolvedFor, events_so_far};
 ghost use Rattle.instgen_loop.specs.Starting.{IsOfProblem};
 ghost use Rattle.instgen_loop.specs.Tended.{AreTended};
 
-use crate::decide::decide;
 use crate::ending::Ending;
 use crate::hand_over::{Remains, base_of, hand_over};
+use crate::open_conclusions::decide;
 use crate::queue::Partners;
 use crate::selection::Selection;
 use crate::start::Given;
@@ -126,7 +126,7 @@ pub fn finish<S: Solver, I: PartnerIndex>(
     given: Given,
     budget: u64,
 ) -> Result<Ending, Memory>
-    requires safe { IsSafe S.atoms I.pairs I.fits run.old }
+    requires safe { IsConsistent S.atoms I.pairs I.fits run.old }
     requires tended { AreTended I.pairs run.old partners.now }
     requires rests { run.old.queue.items ≡ [] }
     requires whole { length run.old.selection.places ≡ length (items run.old) }

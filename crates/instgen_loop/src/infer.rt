@@ -13,7 +13,7 @@ ghost use Rattle.unify_core.specs.Sides.{IsResolvedBy, of_side};
 ghost use Rattle.unify_core.specs.Sizes.{IsSizeUnder};
 ghost use Rattle.cert_values.specs.Wholes.{IsWholeClause};
 ghost use Rattle.instgen_loop.specs.Clauses.{Item, clauses_in};
-ghost use Rattle.instgen_loop.specs.Loops.{IsSafe, Goes, items, IsUnified, IsSideWorked, IsConclusionFor, KeepsLink};
+ghost use Rattle.instgen_loop.specs.Loops.{IsConsistent, Goes, items, IsUnified, IsSideWorked, IsConclusionFor, KeepsLink};
 ghost use Rattle.instgen_loop.specs.Running.{Reads, Holds, AppendsWhole, AppendsPart, AppendsUncovered, MayInfer, KeepsRunning};
 
 use crate::entries::is_covered;
@@ -111,10 +111,10 @@ pub fn conclusion_size<S: Solver, I: PartnerIndex>(
     side: Side,
     from: usize,
 ) -> Result<u64, Memory>
-    requires safe { IsSafe S.atoms I.pairs I.fits run.old }
+    requires safe { IsConsistent S.atoms I.pairs I.fits run.old }
     requires within { (0 < from) × (from ≤ length run.old.selection.places) }
     requires unified { IsUnified run.old.entries.bank run.old.bindings.entries }
-    ensures safe { IsSafe S.atoms I.pairs I.fits run.new }
+    ensures safe { IsConsistent S.atoms I.pairs I.fits run.new }
     ensures goes { Goes run.old run.new }
     ensures bindings { run.new.bindings.entries ≡ run.old.bindings.entries }
     ensures left { run.new.left ≡ run.old.left }
@@ -133,10 +133,10 @@ fn budgeted_size<S: Solver, I: PartnerIndex>(
     side: Side,
     from: usize,
 ) -> Result<u64, Memory>
-    requires safe { IsSafe S.atoms I.pairs I.fits run.old }
+    requires safe { IsConsistent S.atoms I.pairs I.fits run.old }
     requires within { (0 < from) × (from ≤ length run.old.selection.places) }
     requires unified { IsUnified run.old.entries.bank run.old.bindings.entries }
-    ensures safe { IsSafe S.atoms I.pairs I.fits run.new }
+    ensures safe { IsConsistent S.atoms I.pairs I.fits run.new }
     ensures goes { Goes run.old run.new }
     ensures bindings { run.new.bindings.entries ≡ run.old.bindings.entries }
     ensures left { run.new.left ≡ run.old.left }
@@ -155,10 +155,10 @@ pub fn conclusion_of<S: Solver, I: PartnerIndex>(
     side: Side,
     from: usize,
 ) -> Result<IdClause, Memory>
-    requires safe { IsSafe S.atoms I.pairs I.fits run.old }
+    requires safe { IsConsistent S.atoms I.pairs I.fits run.old }
     requires within { (0 < from) × (from ≤ length run.old.selection.places) }
     requires unified { IsUnified run.old.entries.bank run.old.bindings.entries }
-    ensures safe { OnOk result (IsSafe S.atoms I.pairs I.fits run.new) }
+    ensures safe { OnOk result (IsConsistent S.atoms I.pairs I.fits run.new) }
     ensures goes { OnOk result (Goes run.old run.new) }
     ensures bindings { run.new.bindings.entries ≡ run.old.bindings.entries }
     ensures left { run.new.left ≡ run.old.left }
@@ -182,10 +182,10 @@ fn hold<S: Solver, I: PartnerIndex>(
     from: usize,
     partner: usize,
 ) -> Result<(), Memory>
-    requires safe { IsSafe S.atoms I.pairs I.fits run.old }
+    requires safe { IsConsistent S.atoms I.pairs I.fits run.old }
     requires from { (0 < from) × (from ≤ length run.old.selection.places) }
     requires partner { (0 < partner) × (partner ≤ length run.old.selection.places) }
-    ensures safe { OnOk result (IsSafe S.atoms I.pairs I.fits run.new) }
+    ensures safe { OnOk result (IsConsistent S.atoms I.pairs I.fits run.new) }
     ensures goes { OnOk result (Goes run.old run.new) }
     ensures bindings { run.new.bindings.entries ≡ run.old.bindings.entries }
     ensures holds { OnOk result (Holds run.old run.new from partner) }
@@ -201,7 +201,7 @@ fn lemma_of<S: Solver, I: PartnerIndex>(
     run: &mut Run<S, I>,
     conclusion: &IdClause,
 ) -> Result<Option<Lemma>, Memory>
-    requires safe { IsSafe S.atoms I.pairs I.fits run.old }
+    requires safe { IsConsistent S.atoms I.pairs I.fits run.old }
     requires clause { IsClauseOf run.old.entries.bank conclusion.now }
     ensures same { OnOk result (run.new ≡ run.old) }
     ensures some { IfOk result (λ o. IfSome o (IsReduction (clauses_in run.old.entries.bank (items run.old)) (clause_at run.old.entries.bank conclusion.now))) }
@@ -217,10 +217,10 @@ fn part_of<S: Solver, I: PartnerIndex>(
     conclusion: &IdClause,
     keep: &PlaceList,
 ) -> Result<IdClause, Memory>
-    requires safe { IsSafe S.atoms I.pairs I.fits run.old }
+    requires safe { IsConsistent S.atoms I.pairs I.fits run.old }
     requires whole { IsWholeClause run.old.entries.bank conclusion.now }
     requires keep { IsProperPart (length conclusion.now) keep.now }
-    ensures safe { OnOk result (IsSafe S.atoms I.pairs I.fits run.new) }
+    ensures safe { OnOk result (IsConsistent S.atoms I.pairs I.fits run.new) }
     ensures reads { OnOk result (Reads run.old run.new) }
     ensures bindings { OnOk result (run.new.bindings ≡ run.old.bindings) }
     ensures whole { IfOk result (IsWholeClause run.new.entries.bank) }
@@ -238,14 +238,14 @@ fn append_whole<S: Solver, I: PartnerIndex>(
     at: Premises,
     size: u64,
 ) -> Result<(), Memory>
-    requires safe { IsSafe S.atoms I.pairs I.fits run.old }
+    requires safe { IsConsistent S.atoms I.pairs I.fits run.old }
     requires whole { IsWholeClause run.old.entries.bank conclusion }
     requires canonical { IsCanonical (clause_at run.old.entries.bank conclusion) }
     requires new { (e : Item) → Contains (items run.old) e → ¬ (e.0 ≡ conclusion) }
     requires bounded { length conclusion ≤ run.old.entries.longest }
     requires irreducible { IsIrreducible (clauses_in run.old.entries.bank (items run.old)) (clause_at run.old.entries.bank conclusion) }
     requires fits { IfSome run.old.left (λ k. size ≤ k) }
-    ensures safe { OnOk result (IsSafe S.atoms I.pairs I.fits run.new) }
+    ensures safe { OnOk result (IsConsistent S.atoms I.pairs I.fits run.new) }
     ensures appends { OnOk result (AppendsWhole run.old run.new conclusion at size) }
     ensures linked { OnOk result (KeepsLink S.atoms S.added run.old run.new) }
 {
@@ -263,13 +263,13 @@ fn append_part<S: Solver, I: PartnerIndex>(
     lemma: Lemma,
     _len: usize,
 ) -> Result<(), Memory>
-    requires safe { IsSafe S.atoms I.pairs I.fits run.old }
+    requires safe { IsConsistent S.atoms I.pairs I.fits run.old }
     requires whole { IsWholeClause run.old.entries.bank conclusion.now }
     requires reduction { IsReduction (clauses_in run.old.entries.bank (items run.old)) (clause_at run.old.entries.bank conclusion.now) lemma }
     requires bounded { length conclusion.now ≤ run.old.entries.longest }
     requires shorter { length conclusion.now ≤ _len }
     requires uncovered { (c : TreeClause) → length c ≡ _len → ¬ IsCovered (clauses_in run.old.entries.bank (items run.old)) c (clause_at run.old.entries.bank conclusion.now) }
-    ensures safe { OnOk result (IsSafe S.atoms I.pairs I.fits run.new) }
+    ensures safe { OnOk result (IsConsistent S.atoms I.pairs I.fits run.new) }
     ensures appends { OnOk result (AppendsPart run.old run.new conclusion.now at) }
     ensures linked { OnOk result (KeepsLink S.atoms S.added run.old run.new) }
 {
@@ -288,7 +288,7 @@ fn append_uncovered<S: Solver, I: PartnerIndex>(
     len: usize,
     size: u64,
 ) -> Result<(), Memory>
-    requires safe { IsSafe S.atoms I.pairs I.fits run.old }
+    requires safe { IsConsistent S.atoms I.pairs I.fits run.old }
     requires whole { IsWholeClause run.old.entries.bank conclusion }
     requires canonical { IsCanonical (clause_at run.old.entries.bank conclusion) }
     requires new { (e : Item) → Contains (items run.old) e → ¬ (e.0 ≡ conclusion) }
@@ -296,7 +296,7 @@ fn append_uncovered<S: Solver, I: PartnerIndex>(
     requires shorter { length conclusion ≤ len }
     requires premise { len ≤ run.old.entries.longest }
     requires fits { IfSome run.old.left (λ k. size ≤ k) }
-    ensures safe { OnOk result (IsSafe S.atoms I.pairs I.fits run.new) }
+    ensures safe { OnOk result (IsConsistent S.atoms I.pairs I.fits run.new) }
     ensures goes { OnOk result (Goes run.old run.new) }
     ensures bindings { OnOk result (run.new.bindings.entries ≡ run.old.bindings.entries) }
     ensures step { OnOk result (AppendsUncovered run.old run.new conclusion at len size) }
@@ -326,11 +326,11 @@ pub fn infer<S: Solver, I: PartnerIndex>(
     from: usize,
     partner: usize,
 ) -> Result<(), Memory>
-    requires safe { IsSafe S.atoms I.pairs I.fits run.old }
+    requires safe { IsConsistent S.atoms I.pairs I.fits run.old }
     requires from { (0 < from) × (from ≤ length run.old.selection.places) }
     requires partner { (0 < partner) × (partner ≤ length run.old.selection.places) }
     requires unified { IsUnified run.old.entries.bank run.old.bindings.entries }
-    ensures safe { OnOk result (IsSafe S.atoms I.pairs I.fits run.new) }
+    ensures safe { OnOk result (IsConsistent S.atoms I.pairs I.fits run.new) }
     ensures goes { OnOk result (Goes run.old run.new) }
     ensures bindings { OnOk result (run.new.bindings.entries ≡ run.old.bindings.entries) }
     ensures running { OnOk result (MayInfer run.old side from partner → KeepsRunning S.atoms S.added run.old run.new) }

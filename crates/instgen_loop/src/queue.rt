@@ -3,7 +3,7 @@ ghost use Rattle.std.specs.Prelude.{◌≡◌, ◌<◌, ◌≤◌, [], ◌⊎◌
 ghost use Rattle.inst_logic.specs.declared.signed.Signed.{Signed};
 ghost use Rattle.term_bank.specs.Forest.{Extends};
 ghost use Rattle.instgen_select.specs.Queues.{numbers};
-ghost use Rattle.instgen_loop.specs.Loops.{IsSafe, Goes, items, ArePartners, AreWaiting, AreReady, IsSigned, IsPairWorked, held_of};
+ghost use Rattle.instgen_loop.specs.Loops.{IsConsistent, Goes, items, ArePartners, AreWaiting, AreReady, IsSigned, IsPairWorked, held_of};
 ghost use Rattle.engine_laws.specs.Pairs.{AreWorked};
 ghost use Rattle.instgen_loop.specs.Running.{KeepsRunning, entries_of};
 ghost use Rattle.instgen_loop.specs.Tended.{AreTended, indexed_of};
@@ -25,7 +25,7 @@ pub struct Partners<I: PartnerIndex> {
 
 /// Whether the selected literal of entry `n` is positive.
 pub fn is_positive<S: Solver, I: PartnerIndex>(run: &Run<S, I>, n: usize) -> bool
-    requires safe { IsSafe S.atoms I.pairs I.fits run.now }
+    requires safe { IsConsistent S.atoms I.pairs I.fits run.now }
     requires within { (0 < n) × (n ≤ length run.now.selection.places) }
     ensures { IsSigned run.now n result }
 {
@@ -40,11 +40,11 @@ fn work_entry<S: Solver, I: PartnerIndex>(
     partners: &Partners<I>,
     n: usize,
 ) -> Result<(), Memory>
-    requires safe { IsSafe S.atoms I.pairs I.fits run.old }
+    requires safe { IsConsistent S.atoms I.pairs I.fits run.old }
     requires within { (0 < n) × (n ≤ length run.old.selection.places) }
     requires partners { ArePartners I.pairs I.fits run.old partners.now }
     requires worked { AreWorked (entries_of run.old) run.old.selection.places (held_of run.old) (indexed_of I.pairs partners.now) }
-    ensures safe { OnOk result (IsSafe S.atoms I.pairs I.fits run.new) }
+    ensures safe { OnOk result (IsConsistent S.atoms I.pairs I.fits run.new) }
     ensures goes { OnOk result (Goes run.old run.new) }
     ensures running { OnOk result (KeepsRunning S.atoms S.added run.old run.new) }
     ensures worked { OnOk result ((m : ℕ) → Contains (indexed_of I.pairs partners.now) m → IsPairWorked run.new n m) }
@@ -62,7 +62,7 @@ fn store<S: Solver, I: PartnerIndex>(
     partners: &mut Partners<I>,
     n: usize,
 ) -> Result<(), Memory>
-    requires safe { IsSafe S.atoms I.pairs I.fits run.now }
+    requires safe { IsConsistent S.atoms I.pairs I.fits run.now }
     requires within { (0 < n) × (n ≤ length run.now.selection.places) }
     requires partners { ArePartners I.pairs I.fits run.now partners.old }
     requires absent { ¬ Contains (indexed_of I.pairs partners.old) n }
@@ -106,12 +106,12 @@ fn work_ready<S: Solver, I: PartnerIndex>(
     partners: &mut Partners<I>,
     picks: u64,
 ) -> Result<bool, Memory>
-    requires safe { IsSafe S.atoms I.pairs I.fits run.old }
+    requires safe { IsConsistent S.atoms I.pairs I.fits run.old }
     requires ready { AreReady run.old }
     requires all { run.old.queue.ready ≡ run.old.queue.items }
     requires partners { ArePartners I.pairs I.fits run.old partners.old }
     requires tended { AreTended I.pairs run.old partners.old }
-    ensures safe { OnOk result (IsSafe S.atoms I.pairs I.fits run.new) }
+    ensures safe { OnOk result (IsConsistent S.atoms I.pairs I.fits run.new) }
     ensures partners { OnOk result (ArePartners I.pairs I.fits run.new partners.new) }
     ensures tended { OnOk result (AreTended I.pairs run.new partners.new) }
     ensures running { OnOk result (KeepsRunning S.atoms S.added run.old run.new) }
@@ -146,11 +146,11 @@ pub fn work_queue<S: Solver, I: PartnerIndex>(
     partners: &mut Partners<I>,
     picks: u64,
 ) -> Result<bool, Memory>
-    requires safe { IsSafe S.atoms I.pairs I.fits run.old }
+    requires safe { IsConsistent S.atoms I.pairs I.fits run.old }
     requires waiting { AreWaiting run.old }
     requires partners { ArePartners I.pairs I.fits run.old partners.old }
     requires tended { AreTended I.pairs run.old partners.old }
-    ensures safe { OnOk result (IsSafe S.atoms I.pairs I.fits run.new) }
+    ensures safe { OnOk result (IsConsistent S.atoms I.pairs I.fits run.new) }
     ensures partners { OnOk result (ArePartners I.pairs I.fits run.new partners.new) }
     ensures tended { OnOk result (AreTended I.pairs run.new partners.new) }
     ensures running { OnOk result (KeepsRunning S.atoms S.added run.old run.new) }

@@ -7,7 +7,7 @@ ghost use Rattle.cert_format.specs.Printable.{IsPrintableClause};
 ghost use Rattle.prop_logic.specs.Solving.{Refutes};
 ghost use Rattle.instgen_loop.specs.Endings.{IsEndingAfter, IsRefuted, entries_left};
 ghost use Rattle.instgen_loop.specs.Lines.{AreLinesOf};
-ghost use Rattle.instgen_loop.specs.Loops.{IsSafe};
+ghost use Rattle.instgen_loop.specs.Loops.{IsConsistent};
 ghost use Rattle.instgen_loop.specs.Outcomes.{IsRefutedRun};
 ghost use Rattle.instgen_loop.specs.Refuting.{refuted_from};
 ghost use Rattle.instgen_loop.specs.ShownRuns.{IsMadeOf, IsShownOf};
@@ -165,7 +165,7 @@ pub fn refuted_by<S: Solver, I: PartnerIndex>(
     derivation: Derivation,
     _budget: u64,
 ) -> Result<Ending, Memory>
-    requires safe { IsSafe S.atoms I.pairs I.fits run.old }
+    requires safe { IsConsistent S.atoms I.pairs I.fits run.old }
     requires running { IsRunningFor S.atoms S.added run.old (with_axioms _p.now.clauses) _budget }
     requires refutes { Refutes (S.atoms run.old.ground.solver) (S.added run.old.ground.solver) [] [] derivation }
     requires problem { IsOfProblem run.old given _p.now.clauses }

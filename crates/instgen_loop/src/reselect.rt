@@ -4,7 +4,7 @@ ghost use Rattle.std.specs.Prelude.{◌≡◌, ◌↔◌, ◌<◌, ◌≤◌, �
 ghost use Rattle.inst_logic.specs.declared.signed.Signed.{Signed};
 ghost use Rattle.inst_logic.specs.Derivations.{at_number};
 ghost use Rattle.instgen_select.specs.Queues.{numbers};
-ghost use Rattle.instgen_loop.specs.Loops.{IsSafe, ArePartners, items};
+ghost use Rattle.instgen_loop.specs.Loops.{IsConsistent, ArePartners, items};
 ghost use Rattle.instgen_loop.specs.Tended.{indexed_of};
 ghost use Rattle.instgen_loop.specs.Choosing.{IsUnderWay, IsChoice};
 ghost use Rattle.instgen_loop.specs.Settling.{AreSelectable, IsOrderly, Reselects, Requeues};
@@ -36,7 +36,7 @@ fn remove<S: Solver, I: PartnerIndex>(
     partners: &mut Partners<I>,
     n: usize,
 ) -> Result<bool, Memory>
-    requires safe { IsSafe S.atoms I.pairs I.fits run.now }
+    requires safe { IsConsistent S.atoms I.pairs I.fits run.now }
     requires within { (0 < n) × (n ≤ length run.now.selection.places) }
     requires partners { ArePartners I.pairs I.fits run.now partners.old }
     ensures partners { OnOk result (ArePartners I.pairs I.fits run.now partners.new) }
@@ -58,7 +58,7 @@ fn requeue<S: Solver, I: PartnerIndex>(
     n: usize,
     removed: bool,
 ) -> Result<(), Memory>
-    requires safe { IsSafe S.atoms I.pairs I.fits run.old }
+    requires safe { IsConsistent S.atoms I.pairs I.fits run.old }
     requires within { (0 < n) × (n ≤ length (items run.old)) }
     ensures { OnOk result (Requeues run.old run.new n removed) }
 {
@@ -89,7 +89,7 @@ fn withdraw<S: Solver, I: PartnerIndex>(
 
 // The literal that entry `n` chooses.
 fn choice_of<S: Solver, I: PartnerIndex>(run: &Run<S, I>, v: &Valuation, n: usize) -> Chosen
-    requires safe { IsSafe S.atoms I.pairs I.fits run.now }
+    requires safe { IsConsistent S.atoms I.pairs I.fits run.now }
     requires selectable { AreSelectable run.now v.now }
     requires within { (0 < n) × (n ≤ length run.now.selection.places) }
     ensures { (clause : List (Signed ℕ)) × (at_number run.now.ground.literals n ≡ Some clause) × IsChoice clause v.now result.place result.atom }

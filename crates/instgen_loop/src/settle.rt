@@ -6,7 +6,7 @@ ghost use Rattle.inst_logic.specs.Truth.{IsTrueClause};
 ghost use Rattle.prop_logic.specs.Literal.{AllAtomsBelow};
 ghost use Rattle.prop_logic.specs.Solving.{Refutes, Satisfies};
 ghost use Rattle.prop_logic.specs.Valuation.{IsHeld, AreChanges};
-ghost use Rattle.instgen_loop.specs.Loops.{IsSafe, items, ArePartners};
+ghost use Rattle.instgen_loop.specs.Loops.{IsConsistent, items, ArePartners};
 ghost use Rattle.instgen_loop.specs.Selections.{AreUsers};
 ghost use Rattle.instgen_loop.specs.Solves.{Solves};
 ghost use Rattle.instgen_loop.specs.Tended.{AreTended};
@@ -159,12 +159,12 @@ pub fn settle<S: Solver, I: PartnerIndex>(
     run: &mut Run<S, I>,
     partners: &mut Partners<I>,
 ) -> Result<Option<Derivation>, Memory>
-    requires safe { IsSafe S.atoms I.pairs I.fits run.old }
+    requires safe { IsConsistent S.atoms I.pairs I.fits run.old }
     requires partners { ArePartners I.pairs I.fits run.old partners.old }
     requires tended { AreTended I.pairs run.old partners.old }
     requires users { AreUsers run.old.ground.literals run.old.selection }
     requires running { IsSomeRun S.atoms S.added run.old }
-    ensures safe { OnOk result (IsSafe S.atoms I.pairs I.fits run.new) }
+    ensures safe { OnOk result (IsConsistent S.atoms I.pairs I.fits run.new) }
     ensures partners { OnOk result (ArePartners I.pairs I.fits run.new partners.new) }
     ensures tended { OnOk result (AreTended I.pairs run.new partners.new) }
     ensures users { OnOk result (AreUsers run.new.ground.literals run.new.selection) }

@@ -10,7 +10,7 @@ ghost use Rattle.term_bank.specs.Forest.{AreFormed, Extends, clause_at};
 ghost use Rattle.cert_values.specs.Wholes.{IsWholeClause};
 ghost use Rattle.cert_format.specs.Printable.{IsPrintableClause};
 ghost use Rattle.instgen_select.specs.Queues.{numbers};
-ghost use Rattle.instgen_loop.specs.Loops.{IsSafe, items, after};
+ghost use Rattle.instgen_loop.specs.Loops.{IsConsistent, items, after};
 ghost use Rattle.instgen_loop.specs.Running.{IsRunningWith};
 ghost use Rattle.instgen_loop.specs.Starting.{IsFresh, IsAllowed, AreGiven, IsOfProblem};
 ghost use Rattle.instgen_loop.specs.FirstEntries.{Continues, IsStarted};
@@ -164,11 +164,11 @@ fn start_entry<S: Solver, I: PartnerIndex>(
     clause: IdClause,
     k: usize,
 ) -> Result<(), Memory>
-    requires safe { IsSafe S.atoms I.pairs I.fits run.old }
+    requires safe { IsConsistent S.atoms I.pairs I.fits run.old }
     requires whole { IsWholeClause run.old.entries.bank clause }
     requires canonical { IsCanonical (clause_at run.old.entries.bank clause) }
     requires bounded { length clause ≤ run.old.entries.longest }
-    ensures safe { OnOk result (IsSafe S.atoms I.pairs I.fits run.new) }
+    ensures safe { OnOk result (IsConsistent S.atoms I.pairs I.fits run.new) }
     ensures continues { OnOk result (Continues run.old run.new) }
 
     ensures started { OnOk result ((cs : List TreeClause) → k ≡ length cs + 1 → IsStarted S.atoms S.added run.old cs → IsStarted S.atoms S.added run.new (cs ++ clause_at run.old.entries.bank clause ∷ [])) }
@@ -193,11 +193,11 @@ fn start_entries<S: Solver, I: PartnerIndex>(
     clauses: &IdClauses,
     before: usize,
 ) -> Result<(), Memory>
-    requires safe { IsSafe S.atoms I.pairs I.fits run.old }
+    requires safe { IsConsistent S.atoms I.pairs I.fits run.old }
     requires whole { All (IsWholeClause run.old.entries.bank) clauses.now }
     requires canonical { All IsCanonical (map (clause_at run.old.entries.bank) clauses.now) }
     requires bounded { All (λ c. length c ≤ run.old.entries.longest) clauses.now }
-    ensures safe { OnOk result (IsSafe S.atoms I.pairs I.fits run.new) }
+    ensures safe { OnOk result (IsConsistent S.atoms I.pairs I.fits run.new) }
     ensures continues { OnOk result (Continues run.old run.new) }
 
     ensures started { OnOk result ((cs : List TreeClause) → before ≡ length cs → IsStarted S.atoms S.added run.old cs → IsStarted S.atoms S.added run.new (cs ++ map (clause_at run.old.entries.bank) clauses.now)) }
@@ -263,7 +263,7 @@ pub fn start<S: Solver, I: PartnerIndex>(
     requires readable { IsTrue (is_readable_name run.old.ground.abstraction.bot.name) }
     requires clauses { All IsPrintableClause p.now.clauses }
     ensures problem { IfOk result (λ g. IsOfProblem run.new g p.now.clauses) }
-    ensures safe { OnOk result (IsSafe S.atoms I.pairs I.fits run.new) }
+    ensures safe { OnOk result (IsConsistent S.atoms I.pairs I.fits run.new) }
     ensures waiting { OnOk result (numbers run.new.queue.items ≡ after 0 (length (items run.new))) }
     ensures selection { OnOk result (run.new.selection ≡ record { places = []; users = [] }) }
     ensures running { OnOk result (IsRunningWith S.atoms S.added run.new run.new.ground.abstraction.bot (with_axioms p.now.clauses) _budget) }

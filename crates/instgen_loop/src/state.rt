@@ -5,7 +5,7 @@ ghost use Rattle.inst_logic.specs.Clauses.{TreeClause, IsCanonical};
 ghost use Rattle.term_bank.specs.Forest.{clause_at, IsClauseOf};
 ghost use Rattle.cert_values.specs.Wholes.{IsWholeClause};
 ghost use Rattle.instgen_loop.specs.Clauses.{Item};
-ghost use Rattle.instgen_loop.specs.Loops.{IsSafe, Appends, KeepsLink};
+ghost use Rattle.instgen_loop.specs.Loops.{IsConsistent, Appends, KeepsLink};
 
 use crate::entries::{Entries, push_entry};
 use crate::event_log::EventLog;
@@ -58,12 +58,12 @@ pub fn append<S: Solver, I: PartnerIndex>(
     clause: IdClause,
     origin: PackedOrigin,
 ) -> Result<(), Memory>
-    requires safe { IsSafe S.atoms I.pairs I.fits run.old }
+    requires safe { IsConsistent S.atoms I.pairs I.fits run.old }
     requires whole { IsWholeClause run.old.entries.bank clause }
     requires canonical { IsCanonical (clause_at run.old.entries.bank clause) }
     requires new { (e : Item) → Contains run.old.entries.clauses.entries e → ¬ (e.0 ≡ clause) }
     requires bounded { length clause ≤ run.old.entries.longest }
-    ensures safe { OnOk result (IsSafe S.atoms I.pairs I.fits run.new) }
+    ensures safe { OnOk result (IsConsistent S.atoms I.pairs I.fits run.new) }
     ensures appends { OnOk result (Appends run.old run.new clause origin) }
     ensures linked { OnOk result (KeepsLink S.atoms S.added run.old run.new) }
 {

@@ -4,7 +4,7 @@ ghost use Rattle.inst_logic.specs.Tree.{Tree};
 ghost use Rattle.inst_logic.specs.Unifiers.{Sided, IsMostGeneral};
 ghost use Rattle.unify_core.specs.Sides.{IsResolvedBy, of_pair, of_side};
 ghost use Rattle.term_index.specs.Pairs.{Pair};
-ghost use Rattle.instgen_loop.specs.Loops.{IsSafe, Goes, IsSelectedAtom, IsSelectedTree, IsSideWorked, IsSelectedLiteral, IsPairWorked, IsStored, IsUnified};
+ghost use Rattle.instgen_loop.specs.Loops.{IsConsistent, Goes, IsSelectedAtom, IsSelectedTree, IsSideWorked, IsSelectedLiteral, IsPairWorked, IsStored, IsUnified};
 ghost use Rattle.instgen_loop.specs.Alike.{IsWorkedWith, IsDoneWith};
 ghost use Rattle.instgen_loop.specs.Running.{AreOpposite, ArePaired, KeepsRunning};
 
@@ -20,7 +20,7 @@ use unify_core::Side;
 
 // The atom of the selected literal of entry `n`.
 pub fn selected_atom<S: Solver, I: PartnerIndex>(run: &Run<S, I>, n: usize) -> TermId
-    requires safe { IsSafe S.atoms I.pairs I.fits run.now }
+    requires safe { IsConsistent S.atoms I.pairs I.fits run.now }
     requires within { (0 < n) × (n ≤ length run.now.selection.places) }
     ensures { IsSelectedAtom run.now n result }
 {
@@ -37,11 +37,11 @@ fn infer_where_proper<S: Solver, I: PartnerIndex>(
     from: usize,
     partner: usize,
 ) -> Result<(), Memory>
-    requires safe { IsSafe S.atoms I.pairs I.fits run.old }
+    requires safe { IsConsistent S.atoms I.pairs I.fits run.old }
     requires from { (0 < from) × (from ≤ length run.old.selection.places) }
     requires partner { (0 < partner) × (partner ≤ length run.old.selection.places) }
     requires unified { IsUnified run.old.entries.bank run.old.bindings.entries }
-    ensures safe { OnOk result (IsSafe S.atoms I.pairs I.fits run.new) }
+    ensures safe { OnOk result (IsConsistent S.atoms I.pairs I.fits run.new) }
     ensures goes { OnOk result (Goes run.old run.new) }
     ensures bindings { OnOk result (run.new.bindings.entries ≡ run.old.bindings.entries) }
     ensures running { OnOk result (ArePaired run.old side from partner → KeepsRunning S.atoms S.added run.old run.new) }
@@ -64,11 +64,11 @@ fn infer_unless_done<S: Solver, I: PartnerIndex>(
     from: usize,
     partner: usize,
 ) -> Result<(), Memory>
-    requires safe { IsSafe S.atoms I.pairs I.fits run.old }
+    requires safe { IsConsistent S.atoms I.pairs I.fits run.old }
     requires from { (0 < from) × (from ≤ length run.old.selection.places) }
     requires partner { (0 < partner) × (partner ≤ length run.old.selection.places) }
     requires unified { IsUnified run.old.entries.bank run.old.bindings.entries }
-    ensures safe { OnOk result (IsSafe S.atoms I.pairs I.fits run.new) }
+    ensures safe { OnOk result (IsConsistent S.atoms I.pairs I.fits run.new) }
     ensures goes { OnOk result (Goes run.old run.new) }
     ensures bindings { OnOk result (run.new.bindings.entries ≡ run.old.bindings.entries) }
     ensures running { OnOk result (ArePaired run.old side from partner → KeepsRunning S.atoms S.added run.old run.new) }
@@ -97,12 +97,12 @@ fn work_pair<S: Solver, I: PartnerIndex>(
     j: usize,
     done: Done,
 ) -> Result<(), Memory>
-    requires safe { IsSafe S.atoms I.pairs I.fits run.old }
+    requires safe { IsConsistent S.atoms I.pairs I.fits run.old }
     requires first { (0 < i) × (i ≤ length run.old.selection.places) }
     requires second { (0 < j) × (j ≤ length run.old.selection.places) }
     requires first_done { done.first ≡ true → IsWorkedWith run.old i j }
     requires second_done { done.second ≡ true → IsWorkedWith run.old j i }
-    ensures safe { OnOk result (IsSafe S.atoms I.pairs I.fits run.new) }
+    ensures safe { OnOk result (IsConsistent S.atoms I.pairs I.fits run.new) }
     ensures goes { OnOk result (Goes run.old run.new) }
     ensures running { OnOk result (AreOpposite run.old i j → KeepsRunning S.atoms S.added run.old run.new) }
     ensures worked { OnOk result (IsPairWorked run.new i j) }
@@ -119,7 +119,7 @@ fn work_pair<S: Solver, I: PartnerIndex>(
 
 // The selected literal of entry `n`.
 fn selected_literal<S: Solver, I: PartnerIndex>(run: &Run<S, I>, n: usize) -> IdLiteral
-    requires safe { IsSafe S.atoms I.pairs I.fits run.now }
+    requires safe { IsConsistent S.atoms I.pairs I.fits run.now }
     requires within { (0 < n) × (n ≤ length run.now.selection.places) }
     ensures { IsSelectedLiteral run.now n result }
 {
@@ -130,7 +130,7 @@ fn selected_literal<S: Solver, I: PartnerIndex>(run: &Run<S, I>, n: usize) -> Id
 // Whether the other entry has the same literal selected, and nothing is held back: what is worked with one of them is covered for
 // the other.
 fn is_done_with<S: Solver, I: PartnerIndex>(run: &Run<S, I>, other: Option<usize>, n: usize) -> bool
-    requires safe { IsSafe S.atoms I.pairs I.fits run.now }
+    requires safe { IsConsistent S.atoms I.pairs I.fits run.now }
     requires other { IfSome other (λ k. (0 < k) × (k ≤ length run.now.selection.places)) }
     requires within { (0 < n) × (n ≤ length run.now.selection.places) }
     ensures { result ≡ true → IsDoneWith run.now other n }
@@ -163,12 +163,12 @@ fn work_next<S: Solver, I: PartnerIndex>(
     last: Option<usize>,
     j: usize,
 ) -> Result<(), Memory>
-    requires safe { IsSafe S.atoms I.pairs I.fits run.old }
+    requires safe { IsConsistent S.atoms I.pairs I.fits run.old }
     requires picked { (0 < pick.entry) × (pick.entry ≤ length run.old.selection.places) }
     requires partner { (0 < j) × (j ≤ length run.old.selection.places) }
     requires last { IfSome last (λ k. (0 < k) × (k ≤ length run.old.selection.places) × IsPairWorked run.old pick.entry k) }
     requires indexed { IfSome pick.indexed (λ k. (0 < k) × (k ≤ length run.old.selection.places) × IsPairWorked run.old k j) }
-    ensures safe { OnOk result (IsSafe S.atoms I.pairs I.fits run.new) }
+    ensures safe { OnOk result (IsConsistent S.atoms I.pairs I.fits run.new) }
     ensures goes { OnOk result (Goes run.old run.new) }
     ensures running { OnOk result (AreOpposite run.old pick.entry j → KeepsRunning S.atoms S.added run.old run.new) }
     ensures worked { OnOk result (IsPairWorked run.new pick.entry j) }
@@ -189,12 +189,12 @@ fn work_all<S: Solver, I: PartnerIndex>(
     partners: &I,
     pick: Pick,
 ) -> Result<(), Memory>
-    requires safe { IsSafe S.atoms I.pairs I.fits run.old }
+    requires safe { IsConsistent S.atoms I.pairs I.fits run.old }
     requires picked { (0 < pick.entry) × (pick.entry ≤ length run.old.selection.places) }
     requires fits { I.fits run.old.entries.bank partners.now }
     requires stored { (p : Pair) → Contains (I.pairs partners.now) p → IsStored run.old p }
     requires indexed { IfSome pick.indexed (λ k. (0 < k) × (k ≤ length run.old.selection.places) × ((p : Pair) → Contains (I.pairs partners.now) p → IsPairWorked run.old k p.1)) }
-    ensures safe { OnOk result (IsSafe S.atoms I.pairs I.fits run.new) }
+    ensures safe { OnOk result (IsConsistent S.atoms I.pairs I.fits run.new) }
     ensures goes { OnOk result (Goes run.old run.new) }
     ensures running { OnOk result (((p : Pair) → Contains (I.pairs partners.now) p → AreOpposite run.old pick.entry p.1) → KeepsRunning S.atoms S.added run.old run.new) }
     ensures worked { OnOk result ((p : Pair) → Contains (I.pairs partners.now) p → IsPairWorked run.new pick.entry p.1) }
@@ -220,7 +220,7 @@ fn first_like<S: Solver, I: PartnerIndex>(
     index: &I,
     n: usize,
 ) -> Result<Option<usize>, Memory>
-    requires safe { IsSafe S.atoms I.pairs I.fits run.now }
+    requires safe { IsConsistent S.atoms I.pairs I.fits run.now }
     requires within { (0 < n) × (n ≤ length run.now.selection.places) }
     requires fits { I.fits run.now.entries.bank index.now }
     ensures { IfOk result (λ o. IfSome o (λ k. (atom : ℕ) × Contains (I.pairs index.now) (atom, k))) }
@@ -256,7 +256,7 @@ fn first_shared<S: Solver, I: PartnerIndex>(
     index: &I,
     n: usize,
 ) -> Result<Option<usize>, Memory>
-    requires safe { IsSafe S.atoms I.pairs I.fits run.now }
+    requires safe { IsConsistent S.atoms I.pairs I.fits run.now }
     requires within { (0 < n) × (n ≤ length run.now.selection.places) }
     requires fits { I.fits run.now.entries.bank index.now }
     ensures { IfOk result (λ o. IfSome o (λ k. (atom : ℕ) × Contains (I.pairs index.now) (atom, k))) }
@@ -276,14 +276,14 @@ pub fn work_with<S: Solver, I: PartnerIndex>(
     partners: &I,
     i: usize,
 ) -> Result<(), Memory>
-    requires safe { IsSafe S.atoms I.pairs I.fits run.old }
+    requires safe { IsConsistent S.atoms I.pairs I.fits run.old }
     requires picked { (0 < i) × (i ≤ length run.old.selection.places) }
     requires fits { I.fits run.old.entries.bank partners.now }
     requires own_fits { I.fits run.old.entries.bank own.now }
     requires stored { (p : Pair) → Contains (I.pairs partners.now) p → IsStored run.old p }
     requires own_stored { (p : Pair) → Contains (I.pairs own.now) p → IsStored run.old p }
     requires worked { (p q : Pair) → Contains (I.pairs own.now) p → Contains (I.pairs partners.now) q → IsPairWorked run.old p.1 q.1 }
-    ensures safe { OnOk result (IsSafe S.atoms I.pairs I.fits run.new) }
+    ensures safe { OnOk result (IsConsistent S.atoms I.pairs I.fits run.new) }
     ensures goes { OnOk result (Goes run.old run.new) }
     ensures running { OnOk result (((p : Pair) → Contains (I.pairs partners.now) p → AreOpposite run.old i p.1) → KeepsRunning S.atoms S.added run.old run.new) }
     ensures worked { OnOk result ((p : Pair) → Contains (I.pairs partners.now) p → IsPairWorked run.new i p.1) }

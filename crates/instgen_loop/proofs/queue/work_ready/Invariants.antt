@@ -2,7 +2,7 @@ use Rattle.std.proofs.Common.{◌≡◌, ◌≤◌, ◌++◌, ℕ, List, length}
 use Rattle.inst_logic.specs.declared.signed.Signed.{Signed}
 use Rattle.term_bank.specs.Forest.{Extends}
 use Rattle.instgen_select.specs.Queues.{numbers}
-use Rattle.instgen_loop.specs.Loops.{IsSafe, AreReady, ArePartners, items}
+use Rattle.instgen_loop.specs.Loops.{IsConsistent, AreReady, ArePartners, items}
 use Rattle.instgen_loop.specs.Running.{KeepsRunning}
 use Rattle.instgen_loop.specs.Tended.{AreTended}
 use Rattle.instgen_loop.proofs.queue.work_ready.Given as goal
@@ -11,7 +11,7 @@ abbrev pub invariant-loop-run : goal.invariant-loop-run
 invariant-loop-run g l =
     let index = g.I.PartnerIndex in
     record {
-      safe : IsSafe g.S.Solver.atoms index.pairs index.fits l.run;
+      safe : IsConsistent g.S.Solver.atoms index.pairs index.fits l.run;
       ready : AreReady l.run;
       partners : ArePartners index.pairs index.fits l.run l.partners;
       tended : AreTended index.pairs l.run l.partners;

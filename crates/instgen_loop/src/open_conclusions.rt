@@ -4,7 +4,7 @@ ghost use Rattle.inst_logic.specs.Clauses.{instance};
 ghost use Rattle.term_bank.specs.Forest.{clause_at};
 ghost use Rattle.engine_laws.specs.Pairs.{IsStillSelected};
 ghost use Rattle.unify_core.specs.declared.side.Side.TheVariants as sides;
-ghost use Rattle.instgen_loop.specs.Loops.{IsSafe, IsUnified, items, held_of};
+ghost use Rattle.instgen_loop.specs.Loops.{IsConsistent, IsUnified, items, held_of};
 ghost use Rattle.instgen_loop.specs.Running.{Reads, MayInfer, entries_of};
 ghost use Rattle.instgen_loop.specs.Deciding.{IsSomeConclusion, IsDecision, IsOneDecision, IsCoveredOrSize, IsLesser, held_value};
 
@@ -51,10 +51,10 @@ fn uncovered_size<S: Solver, I: PartnerIndex>(
     run: &mut Run<S, I>,
     from: usize,
 ) -> Result<Option<u64>, Memory>
-    requires safe { IsSafe S.atoms I.pairs I.fits run.old }
+    requires safe { IsConsistent S.atoms I.pairs I.fits run.old }
     requires from { (0 < from) × (from ≤ length run.old.selection.places) }
     requires unified { IsUnified run.old.entries.bank run.old.bindings.entries }
-    ensures safe { OnOk result (IsSafe S.atoms I.pairs I.fits run.new) }
+    ensures safe { OnOk result (IsConsistent S.atoms I.pairs I.fits run.new) }
     ensures reads { OnOk result (Reads run.old run.new) }
     ensures size { IfOk result (λ o. (partner : ℕ) (m : MayInfer run.old sides.Left from partner)
         → IsCoveredOrSize run.new (clause_at run.old.entries.bank m.0.literals.left_at.item.0) (instance m.0.unifier.left (clause_at run.old.entries.bank m.0.literals.left_at.item.0)) o) }
@@ -83,10 +83,10 @@ fn decide_one<S: Solver, I: PartnerIndex>(
     run: &mut Run<S, I>,
     held: Premises,
 ) -> Result<Option<u64>, Memory>
-    requires safe { IsSafe S.atoms I.pairs I.fits run.old }
+    requires safe { IsConsistent S.atoms I.pairs I.fits run.old }
     requires whole { length run.old.selection.places ≡ length (items run.old) }
     requires held { IsSomeConclusion (entries_of run.old) (held_value held) }
-    ensures safe { OnOk result (IsSafe S.atoms I.pairs I.fits run.new) }
+    ensures safe { OnOk result (IsConsistent S.atoms I.pairs I.fits run.new) }
     ensures reads { OnOk result (Reads run.old run.new) }
     ensures decision { IfOk result (IsOneDecision run.new (held_value held)) }
 {
@@ -109,10 +109,10 @@ pub fn decide<S: Solver, I: PartnerIndex>(
     alloc: Global,
     run: &mut Run<S, I>,
 ) -> Result<Option<u64>, Memory>
-    requires safe { IsSafe S.atoms I.pairs I.fits run.old }
+    requires safe { IsConsistent S.atoms I.pairs I.fits run.old }
     requires whole { length run.old.selection.places ≡ length (items run.old) }
     requires held { All (IsSomeConclusion (entries_of run.old)) (held_of run.old) }
-    ensures safe { OnOk result (IsSafe S.atoms I.pairs I.fits run.new) }
+    ensures safe { OnOk result (IsConsistent S.atoms I.pairs I.fits run.new) }
     ensures reads { OnOk result (Reads run.old run.new) }
     ensures decision { IfOk result (IsDecision run.new) }
 {

@@ -6,7 +6,7 @@ use Rattle.instgen_loop.specs.Running.{MayInfer}
 use Rattle.instgen_loop.specs.Deciding.{held_value}
 use Rattle.instgen_loop.proofs.Works.{goes_rebound, selected_stays, selected_within}
 use Rattle.instgen_loop.proofs.Decisions.{decided_here, may_held, entries_read, places_read}
-use Rattle.instgen_loop.proofs.decide.decide_one.Goals as goal
+use Rattle.instgen_loop.proofs.open_conclusions.decide_one.Goals as goal
 
 pub uncovered_size-requires-clause-unified : goal.uncovered_size-requires-clause-unified
 uncovered_size-requires-clause-unified g c =

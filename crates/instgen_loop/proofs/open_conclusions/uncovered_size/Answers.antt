@@ -10,7 +10,7 @@ use Rattle.instgen_loop.specs.Loops.{items, IsUnified}
 use Rattle.instgen_loop.proofs.Inferred.{unified_stays, premise_bounded, length_at}
 use Rattle.instgen_loop.proofs.Runs.{may_read, size_concluded, made_concluded}
 use Rattle.instgen_loop.proofs.Decisions.{cover_of_made, has_literal, items_read, places_read, reads_more}
-use Rattle.instgen_loop.proofs.decide.uncovered_size.Goals as goal
+use Rattle.instgen_loop.proofs.open_conclusions.uncovered_size.Goals as goal
 
 pub conclusion_of-requires-clause-unified : goal.conclusion_of-requires-clause-unified
 conclusion_of-requires-clause-unified g c =

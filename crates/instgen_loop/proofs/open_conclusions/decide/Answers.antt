@@ -9,7 +9,7 @@ use Rattle.instgen_loop.specs.Loops.{held_in, held_of}
 use Rattle.instgen_loop.specs.Running.{entries_of}
 use Rattle.instgen_loop.specs.Deciding.{held_value, IsSomeConclusion}
 use Rattle.instgen_loop.proofs.Decisions.{decision_over, decision_step, decision_of_all, entries_read, items_read, places_read, held_read, reads_more, take_next, IsDecisionOf}
-use Rattle.instgen_loop.proofs.decide.decide.Goals as goal
+use Rattle.instgen_loop.proofs.open_conclusions.decide.Goals as goal
 
 pub decide_one-requires-clause-whole : goal.decide_one-requires-clause-whole
 decide_one-requires-clause-whole g c =
