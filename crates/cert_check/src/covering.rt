@@ -1,5 +1,5 @@
-// The covers of what is due, found for one pair after the other. An instance is the clause of its cover. It is built once, and not
-// where a cover that was found before serves again.
+// The covers of what is due, found for one pair after the other. An instance is the clause of its cover. It is not built where a
+// cover that was found before serves again, and built twice where such a cover was tried and is another's.
 ghost use Rattle.std.specs.Prelude.{◌≡◌, ◌↔◌, ◌<◌, ◌++◌, ◌∷◌, List, [], suc, length, false, true, All, IfNone, IfOk, IfSome, IsTrue, None, OnOk};
 ghost use Rattle.cert_format.specs.Dues.{Due, AreDue};
 ghost use Rattle.cert_format.specs.Validity.{IsRightPair, IsValidBase};
@@ -69,7 +69,7 @@ fn named_side(
     named_instance(workspace, &mut cert.base.bank, members, lookup, &of)
 }
 
-// What covers a clause, once more.
+// A copy of what covers a clause.
 fn by_copy(alloc: Global, by: &By) -> Result<By, Memory>
     ensures { IfOk result (λ b. b ≡ by.now) }
 {

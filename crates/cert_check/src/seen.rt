@@ -1,6 +1,7 @@
-// Covers that may serve again. Many partners give one instance of a member, so the place of a cover is kept by the member and by
-// what the arguments of its selected atom become. Such a place is a guess: the cover there is compared with the instance, which is
-// cheaper than to build the instance and look for what covers it.
+// Covers that may serve again. Many partners give one instance of a member, so the place of a cover is kept by a number for the
+// member and what its selected atom becomes. Such a place is a guess: the cover there is compared with the instance. Where it is
+// right, that is cheaper than to build the instance and to look for what covers it; where it is wrong, the instance is built
+// twice.
 ghost use Rattle.std.specs.Prelude.{◌<◌, length};
 ghost use Rattle.unify_core.specs.Chains.{AreBindings};
 
@@ -32,7 +33,7 @@ pub struct SeenCovers {
     slots: Vec<Seen>,
 }
 
-// A number for what the argument becomes. Variables have one number, since those of the partner differ from one to the next.
+// A number for what the argument becomes: that of its term where it is ground, and else none.
 fn mark_of(bank: &Bank, bindings: &Bindings, argument: Bound) -> usize
     requires bindings { AreBindings bank.now bindings.now.entries }
     requires within { argument.term < length bank.now.trees }
@@ -44,15 +45,43 @@ fn mark_of(bank: &Bank, bindings: &Bindings, argument: Bound) -> usize
     0
 }
 
-/// A number for the instance of the member at the place, whose selected atom this is. Instances that differ may have one number.
+// The code, with what the arguments of the term become.
+fn code_with(bank: &Bank, bindings: &Bindings, at: Bound, code: usize) -> usize
+    requires bindings { AreBindings bank.now bindings.now.entries }
+    requires within { at.term < length bank.now.trees }
+{
+    let mut code = code;
+    for term in bank.args(at.term) {
+        let argument = Bound {
+            side: at.side,
+            term: *term,
+        };
+        code = (code ^ mark_of(bank, bindings, argument)).wrapping_mul(FACTOR);
+    }
+    code
+}
+
+// The code, with what the argument becomes, and where that is not ground with what its own arguments become.
+fn code_below(bank: &Bank, bindings: &Bindings, argument: Bound, code: usize) -> usize
+    requires bindings { AreBindings bank.now bindings.now.entries }
+    requires within { argument.term < length bank.now.trees }
+{
+    let end = bindings.follow(bank, argument);
+    if bank.ground(end.term) {
+        return (code ^ end.term.number().wrapping_add(1)).wrapping_mul(FACTOR);
+    }
+    code_with(bank, bindings, end, code.wrapping_mul(FACTOR))
+}
+
+/// A number for the instance of the member at the place, whose selected atom this is, by what the arguments become, and their
+/// arguments. Instances that differ may have one number: variables count as one, as do terms that differ further below.
 pub fn code_of(bank: &Bank, bindings: &Bindings, side: Side, own: usize, atom: TermId) -> usize
     requires bindings { AreBindings bank.now bindings.now.entries }
     requires within { atom < length bank.now.trees }
 {
     let mut code = own.wrapping_mul(FACTOR);
     for term in bank.args(atom) {
-        let mark = mark_of(bank, bindings, Bound { side, term: *term });
-        code = (code ^ mark).wrapping_mul(FACTOR);
+        code = code_below(bank, bindings, Bound { side, term: *term }, code);
     }
     code
 }
