@@ -477,11 +477,11 @@ IsFitting fits bars files file root (Err (why.Load e)) = Refuses files file root
 IsFitting fits bars files file root (Err (why.Unanswered given)) = (p : Problem) × Loads files file root p × bars p given
 IsFitting fits bars files file root (Err why.Memory) = ⊥
 
--- its tables over so many elements are not too large
+-- the problem of the file, whose tables over so many elements are not too large, or why there is none
 abbrev pub IsTabled : List NamedFile → ℕ → List ℕ → Option (List ℕ) → Result Problem Refusal → Type 0
 IsTabled files elements file root = IsFitting (λ p. ¬ IsTooWide elements p.clauses) (IsUnmodelled elements) files file root
 
--- it has no function symbols with arguments
+-- the problem of the file, without function symbols that have arguments, or why there is none
 abbrev pub IsFlat : List NamedFile → List ℕ → Option (List ℕ) → Result Problem Refusal → Type 0
 IsFlat files file root = IsFitting (λ p. IsTrue (is_function_free p.clauses)) IsUncored files file root
 

@@ -35,7 +35,7 @@ pub record IsProblemOf (files : Option (List NamedFile)) (file : List ℕ) (root
   pub good : IsGoodProblem p
   pub loads : load.Told files (λ told. Loads told file root p)
 
--- why a problem that was loaded may have no answer
+-- a relation between problems and reasons why they have no answer
 abbrev pub ReasonRelation : Type 1
 ReasonRelation = Problem → Reason → Type 0
 

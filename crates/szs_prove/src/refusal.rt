@@ -1,4 +1,5 @@
-// Why a problem of a file has no answer, and what is told of it. All commands that begin with such a problem refuse by this.
+// The problem of a file, or why it has no answer, and what is told of that. All commands that begin with such a problem load and
+// refuse by this.
 ghost use Rattle.std.specs.Prelude.{◌≡◌, ◌∷◌, [], codes, IfErr, IfOk};
 ghost use Rattle.std.specs.List.{concat};
 ghost use Rattle.outside_io.specs.Pieces.{bytes_of, text_of};
