@@ -43,7 +43,7 @@ pub fn read_item<'a>(
     let Some((group, number, after)) = head(bytes) else {
         return Ok(None);
     };
-    let Some(behind) = printable_clause(reader, literals, after)? else {
+    let Some(behind) = printable_clause(&mut reader.bank, &mut reader.ids, literals, after)? else {
         return Ok(None);
     };
     let Some((note, rest)) = last_note(reader, shape, group, number, behind)? else {

@@ -2,7 +2,7 @@ use Rattle.std.proofs.Common.{◌≡◌, ◌≢◌, ◌∷◌, ◌++◌, Bor, Li
 use Rattle.std.specs.Prelude.{IsTrue}
 use Rattle.inst_logic.specs.Clauses.{TreeClause}
 use Rattle.inst_logic.specs.Printing.{clause_text}
-use Rattle.term_bank.specs.Forest.{clause_at}
+use Rattle.term_bank.specs.Forest.{Grows, clause_at}
 use Rattle.term_bank.proofs.Clauses.{clause_extends}
 use Rattle.term_bank.proofs.Growth.{grows_trans}
 use Rattle.cert_format.specs.LineMachine.{item}
@@ -29,7 +29,7 @@ pub returns-in_default-3-clause-none : goal.returns-in_default-3-clause-none
 returns-in_default-3-clause-none c =
     let s = c.in-Some in
     let k = c.in_ok-behind in
-    let d = clause_at c.printable_clause.new.reader c.printable_clause.new.literals in
+    let d = clause_at c.printable_clause.new.bank c.printable_clause.new.literals in
     let text = is_some k.field-0 c.in-Some-2.behind (λ (x : Bor (List ℕ)). s.after.now ≡ clause_text d ++ 44 ∷ x.now) c.in-Some-2.is k.ensures.some in
     let test = is_some k.field-0 c.in-Some-2.behind (λ (x : Bor (List ℕ)). IsTrue (clause_is_printable d)) c.in-Some-2.is k.ensures.printable in
     no_item_note c.args.shape s.group s.number d c.args.bytes.now s.after.now c.in-Some-2.behind.now s.ensures.some.0 s.ensures.some.1 text test
@@ -41,7 +41,7 @@ returns-clause-some c =
     let k = c.in_ok-behind in
     let n = c.in-Some-3 in
     let r = c.in_ok-note in
-    let f = c.printable_clause.new.reader in
+    let f = c.printable_clause.new.bank in
     let h = c.last_note.new.reader in
     let w = c.printable_clause.new.literals in
     let d = clause_at f w in
@@ -58,7 +58,7 @@ returns-clause-text c =
     let k = c.in_ok-behind in
     let n = c.in-Some-3 in
     let r = c.in_ok-note in
-    let f = c.printable_clause.new.reader in
+    let f = c.printable_clause.new.bank in
     let h = c.last_note.new.reader in
     let w = c.printable_clause.new.literals in
     let d = clause_at f w in
@@ -80,15 +80,21 @@ returns-clause-group c =
 pub returns-clause-whole : goal.returns-clause-whole
 returns-clause-whole c =
     let k = c.in_ok-behind in
-    let f = c.printable_clause.new.reader in
+    let f = c.printable_clause.new.bank in
     let w = c.printable_clause.new.literals in
     clause_grown f c.last_note.new.reader c.last_note.ensures.grows.0 w (is_some k.field-0 c.in-Some-2.behind (λ (x : Bor (List ℕ)). IsWholeClause f w) c.in-Some-2.is k.ensures.whole)
 
 pub returns-clause-grows : goal.returns-clause-grows
-returns-clause-grows c = grows_trans c.args.reader.now c.printable_clause.new.reader c.last_note.new.reader c.printable_clause.ensures.grows c.last_note.ensures.grows
+returns-clause-grows c =
+    let first = subst (λ f. Grows f c.printable_clause.new.bank) c.reader.view_is c.printable_clause.ensures.grows in
+    grows_trans c.args.reader.now c.printable_clause.new.bank c.last_note.new.reader first c.last_note.ensures.grows
 
 pub returns-in_default-3-clause-grows : goal.returns-in_default-3-clause-grows
-returns-in_default-3-clause-grows c = grows_trans c.args.reader.now c.printable_clause.new.reader c.last_note.new.reader c.printable_clause.ensures.grows c.last_note.ensures.grows
+returns-in_default-3-clause-grows c =
+    let first = subst (λ f. Grows f c.printable_clause.new.bank) c.reader.view_is c.printable_clause.ensures.grows in
+    grows_trans c.args.reader.now c.printable_clause.new.bank c.last_note.new.reader first c.last_note.ensures.grows
 
 pub returns-in_err-note-clause-grows : goal.returns-in_err-note-clause-grows
-returns-in_err-note-clause-grows c = grows_trans c.args.reader.now c.printable_clause.new.reader c.last_note.new.reader c.printable_clause.ensures.grows c.last_note.ensures.grows
+returns-in_err-note-clause-grows c =
+    let first = subst (λ f. Grows f c.printable_clause.new.bank) c.reader.view_is c.printable_clause.ensures.grows in
+    grows_trans c.args.reader.now c.printable_clause.new.bank c.last_note.new.reader first c.last_note.ensures.grows
