@@ -7,7 +7,6 @@ use Rattle.cert_format.specs.LineTexts.{letter_q, letter_c, line, note_text, not
 use Rattle.cert_format.specs.Formats.{clause_is_printable}
 use Rattle.cert_values.specs.Values.{origin_of, hint_of, by_of, side_of}
 use Rattle.cert_values.specs.Wholes.{IsWholeTerm, IsWholeBy}
-use Rattle.cert_values.specs.declared.certificate.GroundHint.{GroundHint}
 use Rattle.cert_items.specs.declared.group.Group.{Group}
 use Rattle.cert_items.specs.declared.group.Group.TheVariants as groups
 use Rattle.cert_items.specs.declared.note.Note as read
@@ -65,17 +64,17 @@ head_text g n rest = codes "cnf(" ++ (letter_of g ∷ (decimal n ++ byte.comma �
 
 -- ---- notes
 
--- the note that was read over the bank, with the hints that were read
-abbrev pub note_of : Forest → read.Note → List GroundHint → Note
-note_of f (notes.Named w) hs = named w
-note_of f notes.Equality hs = equality
-note_of f (notes.Member o) hs = member (origin_of o)
-note_of f (notes.Selected o p) hs = selected (origin_of o) p
-note_of f notes.Ground hs = ground_of
-note_of f (notes.GroundBy k ts) hs = ground_by k (map (tree_at f) ts)
-note_of f notes.Hinted hs = shown_by (map hint_of hs)
-note_of f (notes.InputBy by) hs = input_by (by_of f by)
-note_of f (notes.SideBy left right side by) hs = side_by left right (side_of side) (by_of f by)
+-- the note that was read over the bank
+abbrev pub note_of : Forest → read.Note → Note
+note_of f (notes.Named w) = named w
+note_of f notes.Equality = equality
+note_of f (notes.Member o) = member (origin_of o)
+note_of f (notes.Selected o p) = selected (origin_of o) p
+note_of f notes.Ground = ground_of
+note_of f (notes.GroundBy k ts) = ground_by k (map (tree_at f) ts)
+note_of f (notes.Hinted hs) = shown_by (map hint_of hs)
+note_of f (notes.InputBy by) = input_by (by_of f by)
+note_of f (notes.SideBy left right side by) = side_by left right (side_of side) (by_of f by)
 
 -- its ids are those of terms of the bank
 abbrev pub IsWholeNote : Forest → read.Note → Type 0
@@ -85,7 +84,7 @@ IsWholeNote f (notes.Member o) = Unit {0}
 IsWholeNote f (notes.Selected o p) = Unit {0}
 IsWholeNote f notes.Ground = Unit {0}
 IsWholeNote f (notes.GroundBy k ts) = All (IsWholeTerm f) ts
-IsWholeNote f notes.Hinted = Unit {0}
+IsWholeNote f (notes.Hinted hs) = Unit {0}
 IsWholeNote f (notes.InputBy by) = IsWholeBy f by
 IsWholeNote f (notes.SideBy left right side by) = IsWholeBy f by
 

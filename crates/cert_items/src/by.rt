@@ -7,14 +7,12 @@ ghost use Rattle.cert_values.specs.Values.{by_of};
 ghost use Rattle.cert_values.specs.Wholes.{IsWholeBy};
 ghost use Rattle.cert_items.specs.Notes.{NoBy};
 
+use crate::item_reader::ItemReader;
 use crate::mark::{mark, word};
 use crate::number::number_before;
 use crate::term_list::number_and_terms;
-use crate::text_bank::TextBank;
 use cert_values::By;
 use inst_logic::Memory;
-use std::alloc::Global;
-use term_bank::TermId;
 
 // A variant by the letter of the members and its number, and what follows the parenthesis behind it.
 fn variant(bytes: &[u8]) -> Option<(By, &[u8])>
@@ -29,43 +27,36 @@ fn variant(bytes: &[u8]) -> Option<(By, &[u8])>
 }
 
 // The number of a member with its terms, and what follows the parenthesis behind them.
-fn part<'a>(
-    alloc: Global,
-    bank: &mut TextBank,
-    ids: &mut Vec<TermId>,
-    bytes: &'a [u8],
-) -> Result<Option<(By, &'a [u8])>, Memory>
-    ensures some { IfOk result (λ r. IfSome r (λ p. codes "part(m" ++ bytes.now ≡ by_text (by_of bank.new p.0) p.1.now)) }
-    ensures printable { IfOk result (λ r. IfSome r (λ p. IsTrue (by_is_printable (by_of bank.new p.0)))) }
-    ensures whole { IfOk result (λ r. IfSome r (λ p. IsWholeBy bank.new p.0)) }
+fn part<'a>(reader: &mut ItemReader, bytes: &'a [u8]) -> Result<Option<(By, &'a [u8])>, Memory>
+    ensures some { IfOk result (λ r. IfSome r (λ p. codes "part(m" ++ bytes.now ≡ by_text (by_of reader.new p.0) p.1.now)) }
+    ensures printable { IfOk result (λ r. IfSome r (λ p. IsTrue (by_is_printable (by_of reader.new p.0)))) }
+    ensures whole { IfOk result (λ r. IfSome r (λ p. IsWholeBy reader.new p.0)) }
     ensures none { IfOk result (λ r. IfNone r (NoBy (codes "part(m" ++ bytes.now))) }
-    ensures grows { Grows bank.old bank.new }
+    ensures grows { Grows reader.old reader.new }
 {
-    match number_and_terms(alloc, bank, ids, bytes)? {
+    match number_and_terms(reader, bytes)? {
         None => Ok(None),
         Some((member, terms, rest)) => Ok(Some((By::Part { member, terms }, rest))),
     }
 }
 
-/// What covers a clause, at the front, and what follows it. `ids` is room to work in. What covers an instance is mostly a variant,
-/// so that word is tried first. It ends before the letter, since only words of up to eight bytes are compared without a call.
+/// What covers a clause, at the front, and what follows it. What covers an instance is mostly a variant, so that word is tried
+/// first. It ends before the letter, since only words of up to eight bytes are compared without a call.
 pub fn read_by<'a>(
-    alloc: Global,
-    bank: &mut TextBank,
-    ids: &mut Vec<TermId>,
+    reader: &mut ItemReader,
     bytes: &'a [u8],
 ) -> Result<Option<(By, &'a [u8])>, Memory>
-    ensures some { IfOk result (λ r. IfSome r (λ p. bytes.now ≡ by_text (by_of bank.new p.0) p.1.now)) }
-    ensures printable { IfOk result (λ r. IfSome r (λ p. IsTrue (by_is_printable (by_of bank.new p.0)))) }
-    ensures whole { IfOk result (λ r. IfSome r (λ p. IsWholeBy bank.new p.0)) }
+    ensures some { IfOk result (λ r. IfSome r (λ p. bytes.now ≡ by_text (by_of reader.new p.0) p.1.now)) }
+    ensures printable { IfOk result (λ r. IfSome r (λ p. IsTrue (by_is_printable (by_of reader.new p.0)))) }
+    ensures whole { IfOk result (λ r. IfSome r (λ p. IsWholeBy reader.new p.0)) }
     ensures none { IfOk result (λ r. IfNone r (NoBy bytes.now)) }
-    ensures grows { Grows bank.old bank.new }
+    ensures grows { Grows reader.old reader.new }
 {
     if let Some(after) = word(bytes, b"variant(") {
         return Ok(variant(after));
     }
     if let Some(after) = word(bytes, b"part(m") {
-        return part(alloc, bank, ids, after);
+        return part(reader, after);
     }
     match word(bytes, b"tautology") {
         None => Ok(None),

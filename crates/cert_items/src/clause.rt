@@ -9,7 +9,6 @@ use crate::literals::literal;
 use crate::mark::{mark, word};
 use crate::text_bank::TextBank;
 use inst_logic::Memory;
-use std::alloc::Global;
 use term_bank::{IdClause, IdLiteral, TermId};
 
 // What is left of the text, and whether the clause has ended.
@@ -33,7 +32,6 @@ fn go_on(rest: &[u8]) -> Option<Rest<'_>>
 
 // The literal at the front and the mark behind it.
 fn item<'a>(
-    alloc: Global,
     bank: &mut TextBank,
     ids: &mut Vec<TermId>,
     literals: &mut IdClause,
@@ -44,7 +42,7 @@ fn item<'a>(
     ensures shorter { IfOk result (λ r. IfSome r (λ next. length next.rest.now < length rest.now)) }
     ensures none { IfOk result (λ r. IfNone r (NoFormHead rest.now)) }
 {
-    match literal(alloc, bank, ids, rest) {
+    match literal(bank, ids, rest) {
         Err(e) => Err(e),
         Ok(None) => Ok(None),
         Ok(Some((l, after))) => match go_on(after) {
@@ -59,7 +57,6 @@ fn item<'a>(
 
 /// The clause at the front, its variables and literals as they stand, and what follows the comma behind it.
 pub fn clause<'a>(
-    alloc: Global,
     bank: &mut TextBank,
     ids: &mut Vec<TermId>,
     literals: &mut IdClause,
@@ -76,7 +73,7 @@ pub fn clause<'a>(
     let mut ended = false;
     let mut rest = bytes;
     while !ended {
-        match item(alloc, bank, ids, literals, rest)? {
+        match item(bank, ids, literals, rest)? {
             None => return Ok(None),
             Some(next) => {
                 ended = next.ended;

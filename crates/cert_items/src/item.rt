@@ -7,16 +7,14 @@ ghost use Rattle.cert_values.specs.Wholes.{IsWholeClause};
 ghost use Rattle.cert_items.specs.Items.{IsItem, IsWholeNote, NoItem, group_of, note_of};
 
 use crate::group::{Group, head};
+use crate::item_reader::ItemReader;
 use crate::note::{Note, last_note};
 use crate::printable::printable_clause;
 use crate::shape::Shape;
-use crate::text_bank::TextBank;
-use cert_values::GroundHintList;
 use inst_logic::Memory;
-use std::alloc::Global;
-use term_bank::{IdClause, TermId};
+use term_bank::IdClause;
 
-/// An item but for its clause and its hints, and what follows its line.
+/// An item but for its clause, and what follows its line.
 #[derive(Drop)]
 pub struct Item<'a> {
     pub group: Group,
@@ -25,45 +23,36 @@ pub struct Item<'a> {
     pub rest: &'a [u8],
 }
 
-/// The item whose line is at the front of the text, in a text of the shape. Its clause and its hints are put
-/// into lists that were empty, and `ids` is room to work in. Where there is no item, something may have been put there.
+/// The item whose line is at the front of the text, in a text of the shape. Its clause is put into
+/// a list that was empty. Where there is no item, some of its literals may have been put there.
 pub fn read_item<'a>(
-    alloc: Global,
-    bank: &mut TextBank,
-    ids: &mut Vec<TermId>,
+    reader: &mut ItemReader,
     literals: &mut IdClause,
-    hints: &mut GroundHintList,
     shape: Shape,
     bytes: &'a [u8],
 ) -> Result<Option<Item<'a>>, Memory>
-    requires no_literals { literals.old ≡ [] }
-    requires no_hints { hints.old ≡ [] }
-    ensures some { IfOk result (λ r. IfSome r (λ i. IsItem shape i.number (clause_at bank.new literals.new) (note_of bank.new i.note hints.new))) }
-    ensures text { IfOk result (λ r. IfSome r (λ i. bytes.now ≡ line (item i.number (clause_at bank.new literals.new) (note_of bank.new i.note hints.new)) i.rest.now)) }
-    ensures group { IfOk result (λ r. IfSome r (λ i. group_of (note_of bank.new i.note hints.new) ≡ i.group)) }
-    ensures whole { IfOk result (λ r. IfSome r (λ _. IsWholeClause bank.new literals.new)) }
-    ensures terms { IfOk result (λ r. IfSome r (λ i. IsWholeNote bank.new i.note)) }
+    requires { literals.old ≡ [] }
+    ensures some { IfOk result (λ r. IfSome r (λ i. IsItem shape i.number (clause_at reader.new literals.new) (note_of reader.new i.note))) }
+    ensures text { IfOk result (λ r. IfSome r (λ i. bytes.now ≡ line (item i.number (clause_at reader.new literals.new) (note_of reader.new i.note)) i.rest.now)) }
+    ensures group { IfOk result (λ r. IfSome r (λ i. group_of (note_of reader.new i.note) ≡ i.group)) }
+    ensures whole { IfOk result (λ r. IfSome r (λ _. IsWholeClause reader.new literals.new)) }
+    ensures terms { IfOk result (λ r. IfSome r (λ i. IsWholeNote reader.new i.note)) }
     ensures none { IfOk result (λ r. IfNone r (NoItem shape bytes.now)) }
-    ensures grows { Grows bank.old bank.new }
+    ensures grows { Grows reader.old reader.new }
 {
-    match head(bytes) {
-        None => Ok(None),
-        Some((group, number, after)) => {
-            match printable_clause(alloc, bank, ids, literals, after)? {
-                None => Ok(None),
-                Some(behind) => match last_note(
-                    alloc, bank, ids, hints, shape, group, number, behind,
-                ) {
-                    Err(e) => Err(e),
-                    Ok(None) => Ok(None),
-                    Ok(Some((note, rest))) => Ok(Some(Item {
-                        group,
-                        number,
-                        note,
-                        rest,
-                    })),
-                },
-            }
-        }
-    }
+    let Some((group, number, after)) = head(bytes) else {
+        return Ok(None);
+    };
+    let Some(behind) = printable_clause(&mut reader.bank, &mut reader.ids, literals, after)? else {
+        return Ok(None);
+    };
+    let Some((note, rest)) = last_note(reader, shape, group, number, behind)? else {
+        return Ok(None);
+    };
+    Ok(Some(Item {
+        group,
+        number,
+        note,
+        rest,
+    }))
 }

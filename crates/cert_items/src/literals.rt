@@ -19,7 +19,6 @@ use crate::recent::{Candidate, candidate_of};
 use crate::terms::{goes_on, terms};
 use crate::text_bank::{TextBank, apply};
 use inst_logic::{Kind, Memory, Name, Sym};
-use std::alloc::Global;
 use term_bank::{IdLiteral, TermId};
 
 // A variable with its number, or an application, whose name is printed so.
@@ -31,7 +30,6 @@ pub enum Root<'a> {
 
 // A term but for the symbol at its root, whose arguments go into `ids`, and what follows it.
 fn head<'a>(
-    alloc: Global,
     bank: &mut TextBank,
     ids: &mut Vec<TermId>,
     bytes: &'a [u8],
@@ -56,32 +54,26 @@ fn head<'a>(
     let Some(inner) = mark(after, b'(') else {
         return Ok(Some((Root::Application(name), after)));
     };
-    match terms(alloc, bank, ids, inner, b')')? {
+    match terms(bank, ids, inner, b')')? {
         None => Ok(None),
         Some(rest) => Ok(Some((Root::Application(name), rest))),
     }
 }
 
 // The term of this root.
-fn whole(
-    alloc: Global,
-    bank: &mut TextBank,
-    root: &Root<'_>,
-    ids: &[TermId],
-) -> Result<TermId, Memory>
+fn whole(bank: &mut TextBank, root: &Root<'_>, ids: &[TermId]) -> Result<TermId, Memory>
     requires { IsRoot bank.old root.now ids.now }
     ensures grows { Grows bank.old bank.new }
     ensures at { (bytes rest : List ℕ) → IsRootAt bank.old root.now ids.now bytes rest → IfOk result (λ id. IsTermAt bank.new id bytes rest) }
 {
     match root {
         Root::Variable(n) => bank.var(*n),
-        Root::Application(name) => apply(alloc, bank, Kind::Function, name, ids),
+        Root::Application(name) => apply(bank, Kind::Function, name, ids),
     }
 }
 
 // A term, and what follows it.
 fn term<'a>(
-    alloc: Global,
     bank: &mut TextBank,
     ids: &mut Vec<TermId>,
     bytes: &'a [u8],
@@ -90,10 +82,10 @@ fn term<'a>(
     ensures some { IfOk result (λ r. IfSome r (λ p. IsTermAt bank.new p.0 bytes.now p.1.now)) }
     ensures none { IfOk result (λ r. IfNone r (NoTerm bytes.now)) }
 {
-    let Some((root, rest)) = head(alloc, bank, ids, bytes)? else {
+    let Some((root, rest)) = head(bank, ids, bytes)? else {
         return Ok(None);
     };
-    let id = whole(alloc, bank, &root, ids.as_slice())?;
+    let id = whole(bank, &root, ids.as_slice())?;
     Ok(Some((id, rest)))
 }
 
@@ -111,7 +103,6 @@ fn equality_sign(bytes: &[u8]) -> Option<(bool, &[u8])>
 
 // The literal of this predicate, whose text is at the front of `bytes` behind the sign.
 fn predicate(
-    alloc: Global,
     bank: &mut TextBank,
     positive: bool,
     name: &[u8],
@@ -123,13 +114,12 @@ fn predicate(
     ensures grows { Grows bank.old bank.new }
     ensures at { (bytes rest : List ℕ) → IsApplicationAt bank.old name.now ids.now bytes rest → ¬ IsEqualitySign rest → IfOk result (λ l. IsLiteralAt bank.new l (sign_text positive ++ bytes) rest) }
 {
-    let atom = apply(alloc, bank, Kind::Predicate, name, ids)?;
+    let atom = apply(bank, Kind::Predicate, name, ids)?;
     Ok(IdLiteral { positive, atom })
 }
 
 // The equation of these terms.
 fn equation(
-    alloc: Global,
     bank: &mut TextBank,
     positive: bool,
     left: TermId,
@@ -141,7 +131,7 @@ fn equation(
     ensures grows { Grows bank.old bank.new }
     ensures at { IfOk result (λ l. (l.positive ≡ positive) × IsAt bank.new l.atom (equality_atom (tree_at bank.old left) (tree_at bank.old right))) }
 {
-    let name = Name::of(alloc, b"=")?;
+    let name = Name::of(bank.alloc(), b"=")?;
     let sym = Sym {
         kind: Kind::Equality,
         name,
@@ -153,7 +143,6 @@ fn equation(
 
 // The equation of this left side and the term at the front of `after`.
 fn equal<'a>(
-    alloc: Global,
     bank: &mut TextBank,
     ids: &mut Vec<TermId>,
     positive: bool,
@@ -166,11 +155,11 @@ fn equal<'a>(
     ensures some { IfOk result (λ r. IfSome r (λ p. IsLiteralAt bank.new p.0 bytes.now p.1.now)) }
     ensures none { ((rest : List ℕ) → bytes.now ≢ byte.tilde ∷ rest) → IfOk result (λ r. IfNone r (NoForm bytes.now)) }
 {
-    match term(alloc, bank, ids, after) {
+    match term(bank, ids, after) {
         Err(e) => Err(e),
         Ok(None) => Ok(None),
         Ok(Some((right, rest))) => {
-            let l = equation(alloc, bank, positive, left, right)?;
+            let l = equation(bank, positive, left, right)?;
             Ok(Some((l, rest)))
         }
     }
@@ -178,7 +167,6 @@ fn equal<'a>(
 
 // A literal without a `~`, by the root of its first term.
 fn literal_by_root<'a>(
-    alloc: Global,
     bank: &mut TextBank,
     ids: &mut Vec<TermId>,
     bytes: &'a [u8],
@@ -187,17 +175,17 @@ fn literal_by_root<'a>(
     ensures some { IfOk result (λ r. IfSome r (λ p. IsLiteralAt bank.new p.0 bytes.now p.1.now)) }
     ensures none { ((rest : List ℕ) → bytes.now ≢ byte.tilde ∷ rest) → IfOk result (λ r. IfNone r (NoForm bytes.now)) }
 {
-    match head(alloc, bank, ids, bytes)? {
+    match head(bank, ids, bytes)? {
         None => Ok(None),
         Some((root, rest)) => match equality_sign(rest) {
             Some((positive, after)) => {
-                let left = whole(alloc, bank, &root, ids.as_slice())?;
-                equal(alloc, bank, ids, positive, left, bytes, after)
+                let left = whole(bank, &root, ids.as_slice())?;
+                equal(bank, ids, positive, left, bytes, after)
             }
             None => match root {
                 Root::Variable(_) => Ok(None),
                 Root::Application(name) => {
-                    let l = predicate(alloc, bank, true, name, ids.as_slice())?;
+                    let l = predicate(bank, true, name, ids.as_slice())?;
                     Ok(Some((l, rest)))
                 }
             },
@@ -207,7 +195,6 @@ fn literal_by_root<'a>(
 
 // The literal behind a `~`.
 fn negative_literal<'a>(
-    alloc: Global,
     bank: &mut TextBank,
     ids: &mut Vec<TermId>,
     bytes: &'a [u8],
@@ -216,14 +203,14 @@ fn negative_literal<'a>(
     ensures some { IfOk result (λ r. IfSome r (λ p. IsLiteralAt bank.new p.0 (byte.tilde ∷ bytes.now) p.1.now)) }
     ensures none { IfOk result (λ r. IfNone r (NoForm (byte.tilde ∷ bytes.now))) }
 {
-    match head(alloc, bank, ids, bytes)? {
+    match head(bank, ids, bytes)? {
         None => Ok(None),
         Some((root, rest)) => match root {
             Root::Variable(_) => Ok(None),
             Root::Application(name) => match equality_sign(rest) {
                 Some(_) => Ok(None),
                 None => {
-                    let l = predicate(alloc, bank, false, name, ids.as_slice())?;
+                    let l = predicate(bank, false, name, ids.as_slice())?;
                     Ok(Some((l, rest)))
                 }
             },
@@ -233,7 +220,6 @@ fn negative_literal<'a>(
 
 // The literal at the front, read term by term, and what follows it.
 fn read_literal<'a>(
-    alloc: Global,
     bank: &mut TextBank,
     ids: &mut Vec<TermId>,
     bytes: &'a [u8],
@@ -243,8 +229,8 @@ fn read_literal<'a>(
     ensures none { IfOk result (λ r. IfNone r (NoForm bytes.now)) }
 {
     match mark(bytes, b'~') {
-        Some(after) => negative_literal(alloc, bank, ids, after),
-        None => literal_by_root(alloc, bank, ids, bytes),
+        Some(after) => negative_literal(bank, ids, after),
+        None => literal_by_root(bank, ids, bytes),
     }
 }
 
@@ -280,7 +266,6 @@ fn known_literal<'a>(
 
 // Remembers the literal at the front, where it is the candidate.
 fn note_literal(
-    alloc: Global,
     bank: &mut TextBank,
     candidate: Candidate,
     bytes: &[u8],
@@ -295,12 +280,11 @@ fn note_literal(
     if after.len() != rest.len() {
         return Ok(());
     }
-    bank.note(alloc, text, candidate.code, l)
+    bank.note(text, candidate.code, l)
 }
 
 // The literal at the front, which was not remembered, and what follows it.
 fn new_literal<'a>(
-    alloc: Global,
     bank: &mut TextBank,
     ids: &mut Vec<TermId>,
     candidate: Candidate,
@@ -311,11 +295,11 @@ fn new_literal<'a>(
     ensures some { IfOk result (λ r. IfSome r (λ p. IsLiteralAt bank.new p.0 bytes.now p.1.now)) }
     ensures none { IfOk result (λ r. IfNone r (NoForm bytes.now)) }
 {
-    match read_literal(alloc, bank, ids, bytes) {
+    match read_literal(bank, ids, bytes) {
         Err(e) => Err(e),
         Ok(None) => Ok(None),
         Ok(Some((l, rest))) => {
-            note_literal(alloc, bank, candidate, bytes, rest, &l)?;
+            note_literal(bank, candidate, bytes, rest, &l)?;
             Ok(Some((l, rest)))
         }
     }
@@ -323,7 +307,6 @@ fn new_literal<'a>(
 
 /// The literal at the front, and what follows it.
 pub fn literal<'a>(
-    alloc: Global,
     bank: &mut TextBank,
     ids: &mut Vec<TermId>,
     bytes: &'a [u8],
@@ -335,6 +318,6 @@ pub fn literal<'a>(
     let candidate = candidate_of(bytes);
     match known_literal(bank, candidate, bytes) {
         Some((l, rest)) => Ok(Some((l, rest))),
-        None => new_literal(alloc, bank, ids, candidate, bytes),
+        None => new_literal(bank, ids, candidate, bytes),
     }
 }

@@ -1,7 +1,6 @@
 // The note of an item, which stands behind its clause and says where the clause comes from.
-ghost use Rattle.std.specs.Prelude.{◌≡◌, ◌≢◌, ◌∷◌, ℕ, List, [], IfOk, IfSome, IfNone, IsTrue};
+ghost use Rattle.std.specs.Prelude.{◌≡◌, ◌≢◌, ◌∷◌, ℕ, IfOk, IfSome, IfNone, IsTrue};
 ghost use Rattle.term_bank.specs.Forest.{Forest, Grows};
-ghost use Rattle.cert_values.specs.declared.certificate.GroundHint.{GroundHint};
 ghost use Rattle.cert_items.specs.declared.group.Group.TheVariants.{Input as InInputs, Axiom as InAxioms, Member as InMembers, Ground as InGrounds, Step as InSteps, Shown as InShown, Cover as InCovers};
 ghost use Rattle.cert_items.specs.Items.{IsNoteAt, IsWholeNote, NoNote, NoLastNote, note_of};
 ghost use Rattle.inst_logic.specs.Codes as byte;
@@ -9,6 +8,7 @@ ghost use Rattle.inst_logic.specs.Codes as byte;
 use crate::by::read_by;
 use crate::group::Group;
 use crate::hint_list::read_hints;
+use crate::item_reader::ItemReader;
 use crate::mark::{mark, word};
 use crate::notes::{ground_member, sides, statement_name};
 use crate::origin::read_origin;
@@ -16,16 +16,15 @@ use crate::place::origin_and_place;
 use crate::shape::Shape;
 use crate::symbol::name_of;
 use crate::term_list::number_and_terms;
-use crate::text_bank::TextBank;
 use cert_values::{By, GroundHintList, Origin};
 use inst_logic::{Memory, Name};
 use std::alloc::Global;
-use term_bank::{TermId, TermIdList};
+use term_bank::TermIdList;
 use unify_core::Side;
 
 /// What stands behind the clause of an item: the name of an input's statement, an axiom's word, a member's origin, in a
-/// saturation with its place, a ground clause's member, which has its number, or its input and terms, a step's hints, which have a
-/// list of their own, what shows an input or axiom, or of a cover the two members with the side, and what covers its clause.
+/// saturation with its place, a ground clause's member, which has its number, or its input and terms, a step's hints, what shows
+/// an input or axiom, or of a cover the two members with the side, and what covers its clause.
 #[derive(Drop)]
 pub enum Note {
     Named(Name),
@@ -34,7 +33,7 @@ pub enum Note {
     Selected(Origin, usize),
     Ground,
     GroundBy(usize, TermIdList),
-    Hinted,
+    Hinted(GroundHintList),
     InputBy(By),
     SideBy {
         left: usize,
@@ -45,7 +44,7 @@ pub enum Note {
 }
 
 fn input_note(alloc: Global, bytes: &[u8]) -> Result<Option<(Note, &[u8])>, Memory>
-    ensures some { (shape : Shape) (n : ℕ) (f : Forest) (hints : List GroundHint) → IfOk result (λ r. IfSome r (λ p. IsNoteAt shape InInputs n (note_of f p.0 hints) bytes.now p.1.now)) }
+    ensures some { (shape : Shape) (n : ℕ) (f : Forest) → IfOk result (λ r. IfSome r (λ p. IsNoteAt shape InInputs n (note_of f p.0) bytes.now p.1.now)) }
     ensures whole { (f : Forest) → IfOk result (λ r. IfSome r (λ p. IsWholeNote f p.0)) }
     ensures none { (shape : Shape) (n : ℕ) → IfOk result (λ r. IfNone r (NoNote shape InInputs n bytes.now)) }
 {
@@ -57,7 +56,7 @@ fn input_note(alloc: Global, bytes: &[u8]) -> Result<Option<(Note, &[u8])>, Memo
 }
 
 fn axiom_note(bytes: &[u8]) -> Option<(Note, &[u8])>
-    ensures some { (shape : Shape) (n : ℕ) (f : Forest) (hints : List GroundHint) → IfSome result (λ p. IsNoteAt shape InAxioms n (note_of f p.0 hints) bytes.now p.1.now) }
+    ensures some { (shape : Shape) (n : ℕ) (f : Forest) → IfSome result (λ p. IsNoteAt shape InAxioms n (note_of f p.0) bytes.now p.1.now) }
     ensures whole { (f : Forest) → IfSome result (λ p. IsWholeNote f p.0) }
     ensures none { (shape : Shape) (n : ℕ) → IfNone result (NoNote shape InAxioms n bytes.now) }
 {
@@ -66,7 +65,7 @@ fn axiom_note(bytes: &[u8]) -> Option<(Note, &[u8])>
 }
 
 fn member_note(alloc: Global, shape: Shape, bytes: &[u8]) -> Result<Option<(Note, &[u8])>, Memory>
-    ensures some { (n : ℕ) (f : Forest) (hints : List GroundHint) → IfOk result (λ r. IfSome r (λ p. IsNoteAt shape InMembers n (note_of f p.0 hints) bytes.now p.1.now)) }
+    ensures some { (n : ℕ) (f : Forest) → IfOk result (λ r. IfSome r (λ p. IsNoteAt shape InMembers n (note_of f p.0) bytes.now p.1.now)) }
     ensures whole { (f : Forest) → IfOk result (λ r. IfSome r (λ p. IsWholeNote f p.0)) }
     ensures none { (n : ℕ) → IfOk result (λ r. IfNone r (NoNote shape InMembers n bytes.now)) }
 {
@@ -87,7 +86,7 @@ fn member_note(alloc: Global, shape: Shape, bytes: &[u8]) -> Result<Option<(Note
 fn first_ground(shape: Shape, n: usize, bytes: &[u8]) -> Option<(Note, &[u8])>
     requires refutation { IsTrue shape.refutation }
     requires format { shape.format ≡ 1 }
-    ensures some { (f : Forest) (hints : List GroundHint) → IfSome result (λ p. IsNoteAt shape InGrounds n (note_of f p.0 hints) bytes.now p.1.now) }
+    ensures some { (f : Forest) → IfSome result (λ p. IsNoteAt shape InGrounds n (note_of f p.0) bytes.now p.1.now) }
     ensures whole { (f : Forest) → IfSome result (λ p. IsWholeNote f p.0) }
     ensures none { IfNone result (NoNote shape InGrounds n bytes.now) }
 {
@@ -100,40 +99,36 @@ fn first_ground(shape: Shape, n: usize, bytes: &[u8]) -> Option<(Note, &[u8])>
 
 // The note of a ground clause that names its input and terms.
 fn ground_by<'a>(
-    alloc: Global,
-    bank: &mut TextBank,
-    ids: &mut Vec<TermId>,
+    reader: &mut ItemReader,
     shape: Shape,
     bytes: &'a [u8],
 ) -> Result<Option<(Note, &'a [u8])>, Memory>
     requires refutation { IsTrue shape.refutation }
     requires format { shape.format ≢ 1 }
-    ensures some { (n : ℕ) (hints : List GroundHint) → IfOk result (λ r. IfSome r (λ p. IsNoteAt shape InGrounds n (note_of bank.new p.0 hints) bytes.now p.1.now)) }
-    ensures whole { IfOk result (λ r. IfSome r (λ p. IsWholeNote bank.new p.0)) }
+    ensures some { (n : ℕ) → IfOk result (λ r. IfSome r (λ p. IsNoteAt shape InGrounds n (note_of reader.new p.0) bytes.now p.1.now)) }
+    ensures whole { IfOk result (λ r. IfSome r (λ p. IsWholeNote reader.new p.0)) }
     ensures none { (n : ℕ) → IfOk result (λ r. IfNone r (NoNote shape InGrounds n bytes.now)) }
-    ensures grows { Grows bank.old bank.new }
+    ensures grows { Grows reader.old reader.new }
 {
     let Some(after) = word(bytes, b"ground(") else {
         return Ok(None);
     };
-    match number_and_terms(alloc, bank, ids, after)? {
+    match number_and_terms(reader, after)? {
         None => Ok(None),
         Some((input, terms, rest)) => Ok(Some((Note::GroundBy(input, terms), rest))),
     }
 }
 
 fn ground_note<'a>(
-    alloc: Global,
-    bank: &mut TextBank,
-    ids: &mut Vec<TermId>,
+    reader: &mut ItemReader,
     shape: Shape,
     n: usize,
     bytes: &'a [u8],
 ) -> Result<Option<(Note, &'a [u8])>, Memory>
-    ensures some { (hints : List GroundHint) → IfOk result (λ r. IfSome r (λ p. IsNoteAt shape InGrounds n (note_of bank.new p.0 hints) bytes.now p.1.now)) }
-    ensures whole { IfOk result (λ r. IfSome r (λ p. IsWholeNote bank.new p.0)) }
+    ensures some { IfOk result (λ r. IfSome r (λ p. IsNoteAt shape InGrounds n (note_of reader.new p.0) bytes.now p.1.now)) }
+    ensures whole { IfOk result (λ r. IfSome r (λ p. IsWholeNote reader.new p.0)) }
     ensures none { IfOk result (λ r. IfNone r (NoNote shape InGrounds n bytes.now)) }
-    ensures grows { Grows bank.old bank.new }
+    ensures grows { Grows reader.old reader.new }
 {
     if !shape.refutation {
         return Ok(None);
@@ -141,17 +136,16 @@ fn ground_note<'a>(
     if shape.format == 1 {
         Ok(first_ground(shape, n, bytes))
     } else {
-        ground_by(alloc, bank, ids, shape, bytes)
+        ground_by(reader, shape, bytes)
     }
 }
 
 fn step_note<'a>(
-    hints: &mut GroundHintList,
+    alloc: Global,
     shape: Shape,
     bytes: &'a [u8],
 ) -> Result<Option<(Note, &'a [u8])>, Memory>
-    requires empty { hints.old ≡ [] }
-    ensures some { (n : ℕ) (f : Forest) → IfOk result (λ r. IfSome r (λ p. IsNoteAt shape InSteps n (note_of f p.0 hints.new) bytes.now p.1.now)) }
+    ensures some { (n : ℕ) (f : Forest) → IfOk result (λ r. IfSome r (λ p. IsNoteAt shape InSteps n (note_of f p.0) bytes.now p.1.now)) }
     ensures whole { (f : Forest) → IfOk result (λ r. IfSome r (λ p. IsWholeNote f p.0)) }
     ensures none { (n : ℕ) → IfOk result (λ r. IfNone r (NoNote shape InSteps n bytes.now)) }
 {
@@ -161,44 +155,41 @@ fn step_note<'a>(
     let Some(after) = word(bytes, b"rup([") else {
         return Ok(None);
     };
-    match read_hints(hints, after)? {
+    let mut hints = GroundHintList::new(alloc);
+    match read_hints(&mut hints, after)? {
         None => Ok(None),
-        Some(rest) => Ok(Some((Note::Hinted, rest))),
+        Some(rest) => Ok(Some((Note::Hinted(hints), rest))),
     }
 }
 
 fn shown_note<'a>(
-    alloc: Global,
-    bank: &mut TextBank,
-    ids: &mut Vec<TermId>,
+    reader: &mut ItemReader,
     shape: Shape,
     bytes: &'a [u8],
 ) -> Result<Option<(Note, &'a [u8])>, Memory>
-    ensures some { (n : ℕ) (hints : List GroundHint) → IfOk result (λ r. IfSome r (λ p. IsNoteAt shape InShown n (note_of bank.new p.0 hints) bytes.now p.1.now)) }
-    ensures whole { IfOk result (λ r. IfSome r (λ p. IsWholeNote bank.new p.0)) }
+    ensures some { (n : ℕ) → IfOk result (λ r. IfSome r (λ p. IsNoteAt shape InShown n (note_of reader.new p.0) bytes.now p.1.now)) }
+    ensures whole { IfOk result (λ r. IfSome r (λ p. IsWholeNote reader.new p.0)) }
     ensures none { (n : ℕ) → IfOk result (λ r. IfNone r (NoNote shape InShown n bytes.now)) }
-    ensures grows { Grows bank.old bank.new }
+    ensures grows { Grows reader.old reader.new }
 {
     if !shape.names_covers() {
         return Ok(None);
     }
-    match read_by(alloc, bank, ids, bytes)? {
+    match read_by(reader, bytes)? {
         None => Ok(None),
         Some((by, rest)) => Ok(Some((Note::InputBy(by), rest))),
     }
 }
 
 fn cover_note<'a>(
-    alloc: Global,
-    bank: &mut TextBank,
-    ids: &mut Vec<TermId>,
+    reader: &mut ItemReader,
     shape: Shape,
     bytes: &'a [u8],
 ) -> Result<Option<(Note, &'a [u8])>, Memory>
-    ensures some { (n : ℕ) (hints : List GroundHint) → IfOk result (λ r. IfSome r (λ p. IsNoteAt shape InCovers n (note_of bank.new p.0 hints) bytes.now p.1.now)) }
-    ensures whole { IfOk result (λ r. IfSome r (λ p. IsWholeNote bank.new p.0)) }
+    ensures some { (n : ℕ) → IfOk result (λ r. IfSome r (λ p. IsNoteAt shape InCovers n (note_of reader.new p.0) bytes.now p.1.now)) }
+    ensures whole { IfOk result (λ r. IfSome r (λ p. IsWholeNote reader.new p.0)) }
     ensures none { (n : ℕ) → IfOk result (λ r. IfNone r (NoNote shape InCovers n bytes.now)) }
-    ensures grows { Grows bank.old bank.new }
+    ensures grows { Grows reader.old reader.new }
 {
     if !shape.names_covers() {
         return Ok(None);
@@ -206,7 +197,7 @@ fn cover_note<'a>(
     let Some((left, right, side, after)) = sides(bytes) else {
         return Ok(None);
     };
-    let Some((by, behind)) = read_by(alloc, bank, ids, after)? else {
+    let Some((by, behind)) = read_by(reader, after)? else {
         return Ok(None);
     };
     let Some(rest) = mark(behind, b']') else {
@@ -223,50 +214,42 @@ fn cover_note<'a>(
 
 // The note of the group at the front, and what follows it.
 fn read_note<'a>(
-    alloc: Global,
-    bank: &mut TextBank,
-    ids: &mut Vec<TermId>,
-    hints: &mut GroundHintList,
+    reader: &mut ItemReader,
     shape: Shape,
     group: Group,
     n: usize,
     bytes: &'a [u8],
 ) -> Result<Option<(Note, &'a [u8])>, Memory>
-    requires empty { hints.old ≡ [] }
-    ensures some { IfOk result (λ r. IfSome r (λ p. IsNoteAt shape group n (note_of bank.new p.0 hints.new) bytes.now p.1.now)) }
-    ensures whole { IfOk result (λ r. IfSome r (λ p. IsWholeNote bank.new p.0)) }
+    ensures some { IfOk result (λ r. IfSome r (λ p. IsNoteAt shape group n (note_of reader.new p.0) bytes.now p.1.now)) }
+    ensures whole { IfOk result (λ r. IfSome r (λ p. IsWholeNote reader.new p.0)) }
     ensures none { IfOk result (λ r. IfNone r (NoNote shape group n bytes.now)) }
-    ensures grows { Grows bank.old bank.new }
+    ensures grows { Grows reader.old reader.new }
 {
     match group {
-        Group::Input => input_note(alloc, bytes),
+        Group::Input => input_note(reader.alloc(), bytes),
         Group::Axiom => Ok(axiom_note(bytes)),
-        Group::Member => member_note(alloc, shape, bytes),
-        Group::Ground => ground_note(alloc, bank, ids, shape, n, bytes),
-        Group::Step => step_note(hints, shape, bytes),
-        Group::Shown => shown_note(alloc, bank, ids, shape, bytes),
-        Group::Cover => cover_note(alloc, bank, ids, shape, bytes),
+        Group::Member => member_note(reader.alloc(), shape, bytes),
+        Group::Ground => ground_note(reader, shape, n, bytes),
+        Group::Step => step_note(reader.alloc(), shape, bytes),
+        Group::Shown => shown_note(reader, shape, bytes),
+        Group::Cover => cover_note(reader, shape, bytes),
     }
 }
 
-/// The note of the group at the front, and what follows the end of its line. `ids` is room to work in.
+/// The note of the group at the front, and what follows the end of its line.
 pub fn last_note<'a>(
-    alloc: Global,
-    bank: &mut TextBank,
-    ids: &mut Vec<TermId>,
-    hints: &mut GroundHintList,
+    reader: &mut ItemReader,
     shape: Shape,
     group: Group,
     n: usize,
     bytes: &'a [u8],
 ) -> Result<Option<(Note, &'a [u8])>, Memory>
-    requires empty { hints.old ≡ [] }
-    ensures some { IfOk result (λ r. IfSome r (λ p. IsNoteAt shape group n (note_of bank.new p.0 hints.new) bytes.now (byte.closing_parenthesis ∷ byte.full_stop ∷ byte.line_feed ∷ p.1.now))) }
-    ensures whole { IfOk result (λ r. IfSome r (λ p. IsWholeNote bank.new p.0)) }
+    ensures some { IfOk result (λ r. IfSome r (λ p. IsNoteAt shape group n (note_of reader.new p.0) bytes.now (byte.closing_parenthesis ∷ byte.full_stop ∷ byte.line_feed ∷ p.1.now))) }
+    ensures whole { IfOk result (λ r. IfSome r (λ p. IsWholeNote reader.new p.0)) }
     ensures none { IfOk result (λ r. IfNone r (NoLastNote shape group n bytes.now)) }
-    ensures grows { Grows bank.old bank.new }
+    ensures grows { Grows reader.old reader.new }
 {
-    let Some((note, behind)) = read_note(alloc, bank, ids, hints, shape, group, n, bytes)? else {
+    let Some((note, behind)) = read_note(reader, shape, group, n, bytes)? else {
         return Ok(None);
     };
     match word(behind, b").\n") {

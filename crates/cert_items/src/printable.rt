@@ -10,13 +10,11 @@ ghost use Rattle.inst_logic.specs.Codes as byte;
 use crate::clause::clause;
 use crate::text_bank::{TextBank, is_canonical};
 use inst_logic::Memory;
-use std::alloc::Global;
 use term_bank::{IdClause, TermId};
 
 /// The printable clause at the front of the text, with a comma behind it, and what follows the comma. `ids` is room to work in.
 /// Where there is none, some of its literals may have been read.
 pub fn printable_clause<'a>(
-    alloc: Global,
     bank: &mut TextBank,
     ids: &mut Vec<TermId>,
     literals: &mut IdClause,
@@ -29,10 +27,10 @@ pub fn printable_clause<'a>(
     ensures none { IfOk result (λ r. IfNone r ((c : TreeClause) (rest : List ℕ) → IsTrue (clause_is_printable c) → bytes.now ≢ clause_text c ++ byte.comma ∷ rest)) }
     ensures grows { Grows bank.old bank.new }
 {
-    let Some(rest) = clause(alloc, bank, ids, literals, bytes)? else {
+    let Some(rest) = clause(bank, ids, literals, bytes)? else {
         return Ok(None);
     };
-    if is_canonical(alloc, bank, ids, literals)? {
+    if is_canonical(bank, ids, literals)? {
         Ok(Some(rest))
     } else {
         Ok(None)

@@ -7,10 +7,10 @@ ghost use Rattle.cert_values.specs.Wholes.{IsWholeTerm};
 ghost use Rattle.cert_items.specs.Reading.{ArePrintable};
 ghost use Rattle.inst_logic.specs.Codes as byte;
 
+use crate::item_reader::ItemReader;
 use crate::mark::{mark, word};
 use crate::number::number_before;
 use crate::terms::terms;
-use crate::text_bank::TextBank;
 use inst_logic::Memory;
 use std::alloc::Global;
 use term_bank::{TermId, TermIdList};
@@ -23,27 +23,25 @@ fn list_of(alloc: Global, ids: &[TermId]) -> Result<TermIdList, Memory>
     Ok(TermIdList::from(items))
 }
 
-/// The terms at the front, and what follows the bracket that ends them. `ids` is room to work in.
+/// The terms at the front, and what follows the bracket that ends them.
 pub fn term_list<'a>(
-    alloc: Global,
-    bank: &mut TextBank,
-    ids: &mut Vec<TermId>,
+    reader: &mut ItemReader,
     bytes: &'a [u8],
 ) -> Result<Option<(TermIdList, &'a [u8])>, Memory>
-    ensures some { IfOk result (λ r. IfSome r (λ p. bytes.now ≡ texts.terms (map (tree_at bank.new) p.0) p.1.now)) }
-    ensures printable { IfOk result (λ r. IfSome r (λ p. ArePrintable (map (tree_at bank.new) p.0))) }
-    ensures whole { IfOk result (λ r. IfSome r (λ p. All (IsWholeTerm bank.new) p.0)) }
+    ensures some { IfOk result (λ r. IfSome r (λ p. bytes.now ≡ texts.terms (map (tree_at reader.new) p.0) p.1.now)) }
+    ensures printable { IfOk result (λ r. IfSome r (λ p. ArePrintable (map (tree_at reader.new) p.0))) }
+    ensures whole { IfOk result (λ r. IfSome r (λ p. All (IsWholeTerm reader.new) p.0)) }
     ensures none { IfOk result (λ r. IfNone r ((ts : List Tree) (rest : List ℕ) → ArePrintable ts → bytes.now ≢ texts.terms ts rest)) }
-    ensures grows { Grows bank.old bank.new }
+    ensures grows { Grows reader.old reader.new }
 {
-    ids.clear();
+    reader.ids.clear();
     if let Some(rest) = mark(bytes, b']') {
-        return Ok(Some((TermIdList::new(alloc), rest)));
+        return Ok(Some((TermIdList::new(reader.alloc()), rest)));
     }
-    let Some(rest) = terms(alloc, bank, ids, bytes, b']')? else {
+    let Some(rest) = terms(&mut reader.bank, &mut reader.ids, bytes, b']')? else {
         return Ok(None);
     };
-    let list = list_of(alloc, ids.as_slice())?;
+    let list = list_of(reader.alloc(), reader.ids.as_slice())?;
     Ok(Some((list, rest)))
 }
 
@@ -51,28 +49,26 @@ pub fn term_list<'a>(
 /// Inlined, it hands the list on without a copy of it in memory.
 #[inline(always)]
 pub fn number_and_terms<'a>(
-    alloc: Global,
-    bank: &mut TextBank,
-    ids: &mut Vec<TermId>,
+    reader: &mut ItemReader,
     bytes: &'a [u8],
 ) -> Result<Option<(usize, TermIdList, &'a [u8])>, Memory>
-    ensures some { IfOk result (λ r. IfSome r (λ p. bytes.now ≡ decimal p.0 ++ byte.comma ∷ byte.opening_bracket ∷ texts.terms (map (tree_at bank.new) p.1) (byte.closing_parenthesis ∷ p.2.now))) }
+    ensures some { IfOk result (λ r. IfSome r (λ p. bytes.now ≡ decimal p.0 ++ byte.comma ∷ byte.opening_bracket ∷ texts.terms (map (tree_at reader.new) p.1) (byte.closing_parenthesis ∷ p.2.now))) }
     ensures fits { IfOk result (λ r. IfSome r (λ p. p.0 < 2 ^ 64)) }
-    ensures printable { IfOk result (λ r. IfSome r (λ p. ArePrintable (map (tree_at bank.new) p.1))) }
-    ensures whole { IfOk result (λ r. IfSome r (λ p. All (IsWholeTerm bank.new) p.1)) }
+    ensures printable { IfOk result (λ r. IfSome r (λ p. ArePrintable (map (tree_at reader.new) p.1))) }
+    ensures whole { IfOk result (λ r. IfSome r (λ p. All (IsWholeTerm reader.new) p.1)) }
     ensures none { IfOk result (λ r. IfNone r ((n : ℕ) (ts : List Tree) (rest : List ℕ) → n < 2 ^ 64 → ArePrintable ts → bytes.now ≢ decimal n ++ byte.comma ∷ byte.opening_bracket ∷ texts.terms ts (byte.closing_parenthesis ∷ rest))) }
-    ensures grows { Grows bank.old bank.new }
+    ensures grows { Grows reader.old reader.new }
 {
     let Some((n, after)) = number_before(bytes, b',') else {
         return Ok(None);
     };
     if let Some(rest) = word(after, b"[])") {
-        return Ok(Some((n, TermIdList::new(alloc), rest)));
+        return Ok(Some((n, TermIdList::new(reader.alloc()), rest)));
     }
     let Some(inner) = mark(after, b'[') else {
         return Ok(None);
     };
-    let Some((list, behind)) = term_list(alloc, bank, ids, inner)? else {
+    let Some((list, behind)) = term_list(reader, inner)? else {
         return Ok(None);
     };
     match mark(behind, b')') {

@@ -14,7 +14,6 @@ use crate::name::{is_word_byte, name};
 use crate::number::number;
 use crate::text_bank::{TextBank, apply};
 use inst_logic::{Kind, Memory};
-use std::alloc::Global;
 use term_bank::TermId;
 
 // An application whose arguments are being read: its name as it is printed, and how many ids stand before them.
@@ -65,7 +64,6 @@ fn begin_variable<'a>(
 
 // Opens the application of this name, or makes the constant.
 fn begin_application<'a>(
-    alloc: Global,
     bank: &mut TextBank,
     opens: &mut Vec<Open<'a>>,
     ids: &mut Vec<TermId>,
@@ -86,7 +84,7 @@ fn begin_application<'a>(
             Ok(Some(Left { due: true, rest }))
         }
         None => {
-            let id = apply(alloc, bank, Kind::Function, name, &[])?;
+            let id = apply(bank, Kind::Function, name, &[])?;
             ids.push(id)?;
             Ok(Some(Left {
                 due: false,
@@ -98,7 +96,6 @@ fn begin_application<'a>(
 
 // Reads the head of a term that is due.
 fn begin<'a>(
-    alloc: Global,
     bank: &mut TextBank,
     opens: &mut Vec<Open<'a>>,
     ids: &mut Vec<TermId>,
@@ -114,13 +111,12 @@ fn begin<'a>(
     }
     match name(rest) {
         None => Ok(None),
-        Some((name, after)) => begin_application(alloc, bank, opens, ids, name, after),
+        Some((name, after)) => begin_application(bank, opens, ids, name, after),
     }
 }
 
 // Makes the innermost application, whose arguments have ended.
 fn close<'a>(
-    alloc: Global,
     bank: &mut TextBank,
     opens: &mut Vec<Open<'a>>,
     ids: &mut Vec<TermId>,
@@ -137,7 +133,7 @@ fn close<'a>(
         return Ok(None);
     };
     let (_, args) = ids.as_slice().split_at(open.start);
-    let id = apply(alloc, bank, Kind::Function, open.name, args)?;
+    let id = apply(bank, Kind::Function, open.name, args)?;
     ids.truncate(open.start);
     ids.push(id)?;
     Ok(Some(Left { due: false, rest }))
@@ -154,7 +150,6 @@ fn begins(bytes: &[u8], byte: u8) -> bool
 
 // Goes on behind a term: by a comma, or by the end of the innermost arguments.
 fn go_on<'a>(
-    alloc: Global,
     bank: &mut TextBank,
     opens: &mut Vec<Open<'a>>,
     ids: &mut Vec<TermId>,
@@ -173,7 +168,7 @@ fn go_on<'a>(
             rest: after,
         })),
         None => match mark(rest, b')') {
-            Some(after) => close(alloc, bank, opens, ids, text, after),
+            Some(after) => close(bank, opens, ids, text, after),
             None => Ok(None),
         },
     }
@@ -181,7 +176,6 @@ fn go_on<'a>(
 
 // One step of reading, where the terms have not ended.
 fn step<'a>(
-    alloc: Global,
     bank: &mut TextBank,
     opens: &mut Vec<Open<'a>>,
     ids: &mut Vec<TermId>,
@@ -198,15 +192,14 @@ fn step<'a>(
     ensures none { IfOk result (λ r. IfNone r (NoTerms text.now close)) }
 {
     if left.due {
-        begin(alloc, bank, opens, ids, left.rest)
+        begin(bank, opens, ids, left.rest)
     } else {
-        go_on(alloc, bank, opens, ids, text, left.rest)
+        go_on(bank, opens, ids, text, left.rest)
     }
 }
 
 /// Reads terms that are joined by commas, up to the closing mark, and what follows it.
 pub fn terms<'a>(
-    alloc: Global,
     bank: &mut TextBank,
     ids: &mut Vec<TermId>,
     text: &'a [u8],
@@ -218,19 +211,11 @@ pub fn terms<'a>(
     ensures some { IfOk result (λ r. IfSome r (λ rest. AreTerms bank.new text.now close ids.new.items rest.now)) }
     ensures none { IfOk result (λ r. IfNone r (NoTerms text.now close)) }
 {
-    let mut opens = Vec::new(alloc);
+    let mut opens = Vec::new(bank.alloc());
     let mut due = true;
     let mut rest = text;
     while due || !opens.is_empty() || !begins(rest, close) {
-        match step(
-            alloc,
-            bank,
-            &mut opens,
-            ids,
-            text,
-            close,
-            Left { due, rest },
-        )? {
+        match step(bank, &mut opens, ids, text, close, Left { due, rest })? {
             None => return Ok(None),
             Some(left) => {
                 due = left.due;

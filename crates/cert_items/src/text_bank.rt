@@ -32,6 +32,7 @@ pub struct Known {
 /// A bank that terms of a text are read into. Contracts see the bank.
 #[derive(Drop)]
 pub struct TextBank {
+    alloc: Global,
     bank: Bank,
     known: IndexMap<Vec<u8>, Known>,
     // The ids of the first variables, by their numbers, as far as these were read in this order.
@@ -61,7 +62,6 @@ fn known_of(known: &IndexMap<Vec<u8>, Known>, text: &[u8]) -> Option<Known>
 
 // Remembers the application for a name that is not remembered.
 fn note(
-    alloc: Global,
     known: &mut IndexMap<Vec<u8>, Known>,
     bank: &Bank,
     text: &[u8],
@@ -72,14 +72,13 @@ fn note(
     requires known { AreKnown bank.now known.old.entries }
     ensures { AreKnown bank.now known.new.entries }
 {
-    let key = Vec::from_slice(alloc, text)?;
+    let key = Vec::from_slice(*known.allocator(), text)?;
     known.insert(key, value)?;
     Ok(())
 }
 
 // The application of the symbol of this kind whose name is printed so, and is not remembered.
 fn apply_first(
-    alloc: Global,
     bank: &mut Bank,
     known: &mut IndexMap<Vec<u8>, Known>,
     kind: Kind,
@@ -95,13 +94,13 @@ fn apply_first(
     ensures extends { Extends bank.old bank.new }
     ensures formed { AreFormed bank.old → ((n : List ℕ) → IsFormed (app (record { kind = kind; name = n; arity = length args.now }) (of_list (map (tree_at bank.old) args.now)))) → AreFormed bank.new }
 {
-    let id = apply_named(alloc, bank, kind, text, args)?;
+    let id = apply_named(*known.allocator(), bank, kind, text, args)?;
     let value = Known {
         kind,
         arity: args.len(),
         id,
     };
-    note(alloc, known, bank, text, value)?;
+    note(known, bank, text, value)?;
     Ok(id)
 }
 
@@ -127,7 +126,6 @@ fn apply_again(
 
 // The application of the symbol of this kind whose name is printed so.
 fn symbol_application(
-    alloc: Global,
     bank: &mut Bank,
     known: &mut IndexMap<Vec<u8>, Known>,
     kind: Kind,
@@ -143,12 +141,12 @@ fn symbol_application(
     ensures formed { AreFormed bank.old → ((n : List ℕ) → IsFormed (app (record { kind = kind; name = n; arity = length args.now }) (of_list (map (tree_at bank.old) args.now)))) → AreFormed bank.new }
 {
     match known_of(known, text) {
-        None => apply_first(alloc, bank, known, kind, text, args),
+        None => apply_first(bank, known, kind, text, args),
         Some(found) => {
             if found.kind == kind && found.arity == args.len() {
                 apply_again(bank, text, &found, args)
             } else {
-                apply_named(alloc, bank, kind, text, args)
+                apply_named(*known.allocator(), bank, kind, text, args)
             }
         }
     }
@@ -200,11 +198,17 @@ impl TextBank {
         ensures { result ≡ record { trees = []; symbols = []; spent = false } }
     {
         TextBank {
+            alloc,
             bank: Bank::new(alloc),
             known: IndexMap::new(alloc),
             variables: Vec::new(alloc),
             recent: Recent::new(alloc),
         }
+    }
+
+    // The allocator that it was made with.
+    pub(crate) fn alloc(&self) -> Global {
+        self.alloc
     }
 
     /// The bank, without what is remembered.
@@ -232,7 +236,6 @@ impl TextBank {
     // Remembers the literal by its text, which has this code.
     pub(crate) fn note(
         &mut self,
-        alloc: Global,
         text: &[u8],
         code: usize,
         literal: &IdLiteral,
@@ -240,7 +243,7 @@ impl TextBank {
         requires { IsSpelled self.old text.now literal.now }
         ensures { self.new ≡ self.old }
     {
-        self.recent.note(alloc, text, code, literal)
+        self.recent.note(self.alloc, text, code, literal)
     }
 
     // The id of the variable of this number.
@@ -264,7 +267,6 @@ impl TextBank {
 
 // The id of the application of the symbol of this kind whose name is printed so.
 pub fn apply(
-    alloc: Global,
     bank: &mut TextBank,
     kind: Kind,
     text: &[u8],
@@ -276,12 +278,11 @@ pub fn apply(
     ensures extends { Extends bank.old bank.new }
     ensures formed { AreFormed bank.old → ((n : List ℕ) → IsFormed (app (record { kind = kind; name = n; arity = length args.now }) (of_list (map (tree_at bank.old) args.now)))) → AreFormed bank.new }
 {
-    symbol_application(alloc, &mut bank.bank, &mut bank.known, kind, text, args)
+    symbol_application(&mut bank.bank, &mut bank.known, kind, text, args)
 }
 
 // Whether the clause has its variables 0, 1, 2 by first occurrence, and no repeats. `ids` is room to work in.
 pub fn is_canonical(
-    alloc: Global,
     bank: &mut TextBank,
     ids: &mut Vec<TermId>,
     c: &IdClause,
@@ -290,5 +291,5 @@ pub fn is_canonical(
     ensures grows { Grows bank.old bank.new }
     ensures is { IfOk result (λ r. IsTrue r ↔ IsCanonical (clause_at bank.old c.now)) }
 {
-    is_canonical_in(alloc, &mut bank.bank, ids, c)
+    is_canonical_in(bank.alloc, &mut bank.bank, ids, c)
 }

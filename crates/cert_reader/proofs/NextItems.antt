@@ -14,7 +14,6 @@ use Rattle.cert_format.proofs.Exits as exits
 use Rattle.cert_format.proofs.Exits.{item_line_once}
 use Rattle.cert_format.proofs.Formats.{next_of}
 use Rattle.cert_format.proofs.LineNotes.{line_more}
-use Rattle.cert_values.specs.declared.certificate.GroundHint.{GroundHint}
 use Rattle.cert_values.specs.Wholes.{IsWholeClause}
 use Rattle.cert_items.specs.declared.shape.Shape.{Shape}
 use Rattle.cert_items.specs.Items.{shape_of, IsItem, IsWholeNote, NoItem, group_of, note_of, rank_of}
@@ -121,38 +120,38 @@ low_rank : (g : Groups) (k : Group) (note : Note) → group_of note ≡ k → ra
 low_rank g k note group_is low = subst (λ (z : ℕ). rank_of g.last ≤ z) (sym (rank_group note ∙ ap rank_of group_is)) low
 
 -- the note's clause is the next one where it has to be
-shows_next : (s : Shape) (f : Forest) (g : Groups) (k : Group) (note : read.Note) (c : List (Signed ℕ)) (hs : List GroundHint) → fits (header s [] []) (note_of f note hs) ≡ true → group_of (note_of f note hs) ≡ k → TakesTurn s k g c → ShowsNext note g c
-shows_next s f g k (notes.Named w) c hs fit e t = tt
-shows_next s f g k notes.Equality c hs fit e t = tt
-shows_next s f g k (notes.Member o) c hs fit e t = tt
-shows_next s f g k (notes.Selected o p) c hs fit e t = tt
-shows_next s f g k notes.Ground c hs fit e t = tt
-shows_next s f g k (notes.GroundBy n ts) c hs fit e t = tt
-shows_next s f g k notes.Hinted c hs fit e t = tt
-shows_next s f g k (notes.InputBy by) c hs fit e t = subst (λ (z : Group). TakesTurn s z g c) (sym e) t fit
-shows_next s f g k (notes.SideBy l r d by) c hs fit e t = tt
+shows_next : (s : Shape) (f : Forest) (g : Groups) (k : Group) (note : read.Note) (c : List (Signed ℕ)) → fits (header s [] []) (note_of f note) ≡ true → group_of (note_of f note) ≡ k → TakesTurn s k g c → ShowsNext note g c
+shows_next s f g k (notes.Named w) c fit e t = tt
+shows_next s f g k notes.Equality c fit e t = tt
+shows_next s f g k (notes.Member o) c fit e t = tt
+shows_next s f g k (notes.Selected o p) c fit e t = tt
+shows_next s f g k notes.Ground c fit e t = tt
+shows_next s f g k (notes.GroundBy n ts) c fit e t = tt
+shows_next s f g k (notes.Hinted hs) c fit e t = tt
+shows_next s f g k (notes.InputBy by) c fit e t = subst (λ (z : Group). TakesTurn s z g c) (sym e) t fit
+shows_next s f g k (notes.SideBy l r d by) c fit e t = tt
 
-module _ (s : Shape) (f h : Forest) (g : Groups) (k : Group) (n : ℕ) (note : read.Note) (c : List (Signed ℕ)) (hs : List GroundHint) (grown : Extends f h) (formed : AreFormed h) (p : AreGroups s f g)
-    (i : IsItem s n (clause_at h c) (note_of h note hs)) (group_is : group_of (note_of h note hs) ≡ k) (m : MayFollow s g k n c) where
-  abbrev fit : fits (header s [] []) (note_of h note hs) ≡ true
+module _ (s : Shape) (f h : Forest) (g : Groups) (k : Group) (n : ℕ) (note : read.Note) (c : List (Signed ℕ)) (grown : Extends f h) (formed : AreFormed h) (p : AreGroups s f g)
+    (i : IsItem s n (clause_at h c) (note_of h note)) (group_is : group_of (note_of h note) ≡ k) (m : MayFollow s g k n c) where
+  abbrev fit : fits (header s [] []) (note_of h note) ≡ true
   fit = i.form (header s [] []) refl
 
   abbrev next : ShowsNext note g c
-  next = shows_next s h g k note c hs fit group_is m.2
+  next = shows_next s h g k note c fit group_is m.2
 
-  pub next_groups : IsWholeClause h c → IsWholeNote h note → AreGroups s h (pushed note c hs g)
-  next_groups whole terms = pushed_groups s.refutation s.format h g note c hs (grown_groups f h grown s g formed p) (low_rank g k (note_of h note hs) group_is m.0) fit next whole terms
+  pub next_groups : IsWholeClause h c → IsWholeNote h note → AreGroups s h (pushed note c g)
+  next_groups whole terms = pushed_groups s.refutation s.format h g note c (grown_groups f h grown s g formed p) (low_rank g k (note_of h note) group_is m.0) fit next whole terms
 
-  pub next_item : (bytes rest : List ℕ) → bytes ≡ line (item n (clause_at h c) (note_of h note hs)) rest → IsNextItem s (items_of s f g) (items_of s h (pushed note c hs g)) bytes rest
+  pub next_item : (bytes rest : List ℕ) → bytes ≡ line (item n (clause_at h c) (note_of h note)) rest → IsNextItem s (items_of s f g) (items_of s h (pushed note c g)) bytes rest
   next_item bytes rest text =
       let q = grown_groups f h grown s g formed p in
       let same = grown_items f h grown s g p in
       record {
         number = n;
         clause = clause_at h c;
-        note = note_of h note hs;
-        follows = λ z e. subst (λ (is : List Item). may_follow z is n (clause_at h c) (note_of h note hs) ≡ true) same (follows s h g k n c (note_of h note hs) q i group_is m z e);
-        one_more = pushed_items s.refutation s.format h g note c hs q (low_rank g k (note_of h note hs) group_is m.0) fit next ∙ ap (λ (is : List Item). is ++ record { clause = clause_at h c; note = note_of h note hs } ∷ []) same;
+        note = note_of h note;
+        follows = λ z e. subst (λ (is : List Item). may_follow z is n (clause_at h c) (note_of h note) ≡ true) same (follows s h g k n c (note_of h note) q i group_is m z e);
+        one_more = pushed_items s.refutation s.format h g note c q (low_rank g k (note_of h note) group_is m.0) fit next ∙ ap (λ (is : List Item). is ++ record { clause = clause_at h c; note = note_of h note } ∷ []) same;
         text_is = text;
       }
 

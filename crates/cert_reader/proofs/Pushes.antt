@@ -18,7 +18,6 @@ use Rattle.cert_format.specs.ValueLines.{input_items, axiom_items, member_items,
 use Rattle.cert_format.proofs.LineTexts.{input_ranks, axiom_ranks, member_ranks, selected_ranks, ground_ranks, line_ranks, step_ranks, shown_ranks, cover_ranks}
 use Rattle.cert_format.proofs.GroupItems.{last_push, all_append, axioms_length, members_length, grounds_length, steps_length}
 use Rattle.cert_values.specs.declared.certificate.By as bys
-use Rattle.cert_values.specs.declared.certificate.GroundHint.{GroundHint}
 use Rattle.cert_values.specs.declared.certificate.GroundStep.{GroundStep}
 use Rattle.cert_values.specs.declared.member.Member.{Member}
 use Rattle.cert_values.specs.Values.{origin_of, hint_of, entry_of, step_of, line_of, by_of, side_of, cover_of}
@@ -218,12 +217,12 @@ next_clause f g c h =
 
 -- ---- one item more
 
-abbrev item_of : Forest → Note → List (Signed ℕ) → List GroundHint → Item
-item_of f note c hs = record { clause = clause_at f c; note = note_of f note hs }
+abbrev item_of : Forest → Note → List (Signed ℕ) → Item
+item_of f note c = record { clause = clause_at f c; note = note_of f note }
 
 -- the note stands in texts of the shape
-abbrev Fits : Shape → Forest → Note → List GroundHint → Type 0
-Fits s f note hs = fits (header s [] []) (note_of f note hs) ≡ true
+abbrev Fits : Shape → Forest → Note → Type 0
+Fits s f note = fits (header s [] []) (note_of f note) ≡ true
 
 -- where the note says what shows an input or axiom, the clause is that of the next one
 abbrev pub ShowsNext : Note → Groups → List (Signed ℕ) → Type 0
@@ -253,64 +252,64 @@ first_behind xs ls i e =
     ap (λ (z : List format.GroundLine). (xs ++ i ∷ []) ++ line_items z) e ∙ append-nil (xs ++ i ∷ [])
     ∙ ap (λ (z : List Item). z ++ i ∷ []) (sym (ap (λ (z : List format.GroundLine). xs ++ line_items z) e ∙ append-nil xs))
 
-pub pushed_items : (r : Bool) (v : ℕ) (f : Forest) (g : Groups) (note : Note) (c : List (Signed ℕ)) (hs : List GroundHint) → AreGroups (shape_for r v) f g → rank_of g.last ≤ rank (note_of f note hs) → Fits (shape_for r v) f note hs → ShowsNext note g c
-    → items_of (shape_for r v) f (pushed note c hs g) ≡ items_of (shape_for r v) f g ++ item_of f note c hs ∷ []
-pushed_items r v f g (notes.Named w) c hs p l fit next =
+pub pushed_items : (r : Bool) (v : ℕ) (f : Forest) (g : Groups) (note : Note) (c : List (Signed ℕ)) → AreGroups (shape_for r v) f g → rank_of g.last ≤ rank (note_of f note) → Fits (shape_for r v) f note → ShowsNext note g c
+    → items_of (shape_for r v) f (pushed note c g) ≡ items_of (shape_for r v) f g ++ item_of f note c ∷ []
+pushed_items r v f g (notes.Named w) c p l fit next =
     ap₂ (λ (z w : List Item). z ++ (axioms r v f g ++ (members r v f g ++ (grounds r v f g ++ (steps r v f g ++ (w ++ covers r v f g))))))
     (ap (λ (cs : List TreeClause). input_items cs (g.names ++ w ∷ [])) (map_push (clause_at f) g.inputs c) ∙ inputs_push (map (clause_at f) g.inputs) g.names (clause_at f c) w (p.named ∙ sym (length-map g.inputs (clause_at f))))
     (other_base f (map (clause_at f) (g.inputs ++ c ∷ []) ++ map (clause_at f) g.axioms) (base r v f g) g.shown (early r v f g p (omega arith)))
-    ∙ push_0 (inputs r v f g) (axioms r v f g) (members r v f g) (grounds r v f g) (steps r v f g) (shown r v f g) (covers r v f g) (input_group r v f g) (axiom_group r v f g) (own_members r v f g) (ground_group r v f g) (step_group r v f g) (shown_group r v f g) (cover_group r v f g) (item_of f (notes.Named w) c hs) (low r v f g p 0 l)
-pushed_items r v f g notes.Equality c hs p l fit next =
+    ∙ push_0 (inputs r v f g) (axioms r v f g) (members r v f g) (grounds r v f g) (steps r v f g) (shown r v f g) (covers r v f g) (input_group r v f g) (axiom_group r v f g) (own_members r v f g) (ground_group r v f g) (step_group r v f g) (shown_group r v f g) (cover_group r v f g) (item_of f (notes.Named w) c) (low r v f g p 0 l)
+pushed_items r v f g notes.Equality c p l fit next =
     ap₂ (λ (z w : List Item). inputs r v f g ++ (z ++ (members r v f g ++ (grounds r v f g ++ (steps r v f g ++ (w ++ covers r v f g))))))
     (ap axiom_items (map_push (clause_at f) g.axioms c) ∙ axioms_push (map (clause_at f) g.axioms) (clause_at f c))
     (other_base f (map (clause_at f) g.inputs ++ map (clause_at f) (g.axioms ++ c ∷ [])) (base r v f g) g.shown (early r v f g p (omega arith)))
-    ∙ push_1 (inputs r v f g) (axioms r v f g) (members r v f g) (grounds r v f g) (steps r v f g) (shown r v f g) (covers r v f g) (input_group r v f g) (axiom_group r v f g) (own_members r v f g) (ground_group r v f g) (step_group r v f g) (shown_group r v f g) (cover_group r v f g) (item_of f notes.Equality c hs) (low r v f g p 1 l)
-pushed_items true v f g (notes.Member o) c hs p l fit next =
+    ∙ push_1 (inputs r v f g) (axioms r v f g) (members r v f g) (grounds r v f g) (steps r v f g) (shown r v f g) (covers r v f g) (input_group r v f g) (axiom_group r v f g) (own_members r v f g) (ground_group r v f g) (step_group r v f g) (shown_group r v f g) (cover_group r v f g) (item_of f notes.Equality c) (low r v f g p 1 l)
+pushed_items true v f g (notes.Member o) c p l fit next =
     ap (λ (z : List Item). inputs true v f g ++ (axioms true v f g ++ (z ++ (grounds true v f g ++ (steps true v f g ++ (shown true v f g ++ covers true v f g))))))
     (ap member_items (map_push (entry_of f) g.members (record { clause = c; origin = o })) ∙ members_push (map (entry_of f) g.members) (record { clause = clause_at f c; origin = origin_of o }))
-    ∙ push_2 (inputs true v f g) (axioms true v f g) (members true v f g) (grounds true v f g) (steps true v f g) (shown true v f g) (covers true v f g) (input_group true v f g) (axiom_group true v f g) (own_members true v f g) (ground_group true v f g) (step_group true v f g) (shown_group true v f g) (cover_group true v f g) (item_of f (notes.Member o) c hs) (low true v f g p 2 l)
-pushed_items false v f g (notes.Member o) c hs p l fit next = absurd cc
-pushed_items true v f g (notes.Selected o k) c hs p l fit next = absurd cc
-pushed_items false v f g (notes.Selected o k) c hs p l fit next =
+    ∙ push_2 (inputs true v f g) (axioms true v f g) (members true v f g) (grounds true v f g) (steps true v f g) (shown true v f g) (covers true v f g) (input_group true v f g) (axiom_group true v f g) (own_members true v f g) (ground_group true v f g) (step_group true v f g) (shown_group true v f g) (cover_group true v f g) (item_of f (notes.Member o) c) (low true v f g p 2 l)
+pushed_items false v f g (notes.Member o) c p l fit next = absurd cc
+pushed_items true v f g (notes.Selected o k) c p l fit next = absurd cc
+pushed_items false v f g (notes.Selected o k) c p l fit next =
     ap (λ (z : List Item). inputs false v f g ++ (axioms false v f g ++ (z ++ (grounds false v f g ++ (steps false v f g ++ (shown false v f g ++ covers false v f g))))))
     (ap (λ (es : List Entry). selected_items es (g.places ++ k ∷ [])) (map_push (entry_of f) g.members (record { clause = c; origin = o }))
     ∙ selected_push (map (entry_of f) g.members) g.places (record { clause = clause_at f c; origin = origin_of o }) k (p.form.placed refl ∙ sym (length-map g.members (entry_of f))))
-    ∙ push_2 (inputs false v f g) (axioms false v f g) (members false v f g) (grounds false v f g) (steps false v f g) (shown false v f g) (covers false v f g) (input_group false v f g) (axiom_group false v f g) (own_members false v f g) (ground_group false v f g) (step_group false v f g) (shown_group false v f g) (cover_group false v f g) (item_of f (notes.Selected o k) c hs) (low false v f g p 2 l)
-pushed_items r v f g notes.Ground c hs p l fit next =
+    ∙ push_2 (inputs false v f g) (axioms false v f g) (members false v f g) (grounds false v f g) (steps false v f g) (shown false v f g) (covers false v f g) (input_group false v f g) (axiom_group false v f g) (own_members false v f g) (ground_group false v f g) (step_group false v f g) (shown_group false v f g) (cover_group false v f g) (item_of f (notes.Selected o k) c) (low false v f g p 2 l)
+pushed_items r v f g notes.Ground c p l fit next =
     ap (λ (z : List Item). inputs r v f g ++ (axioms r v f g ++ (members r v f g ++ (z ++ (steps r v f g ++ (shown r v f g ++ covers r v f g))))))
     (ap (λ (z : List Item). z ++ line_items (map (line_of f) g.lines)) (ap ground_items (map_push (clause_at f) g.grounds c) ∙ grounds_push (map (clause_at f) g.grounds) (clause_at f c))
-    ∙ first_behind (ground_items (map (clause_at f) g.grounds)) (map (line_of f) g.lines) (item_of f notes.Ground c hs) (no_lines r v f g p.form fit))
-    ∙ push_3 (inputs r v f g) (axioms r v f g) (members r v f g) (grounds r v f g) (steps r v f g) (shown r v f g) (covers r v f g) (input_group r v f g) (axiom_group r v f g) (own_members r v f g) (ground_group r v f g) (step_group r v f g) (shown_group r v f g) (cover_group r v f g) (item_of f notes.Ground c hs) (low r v f g p 3 l)
-pushed_items r v f g (notes.GroundBy k ts) c hs p l fit next =
+    ∙ first_behind (ground_items (map (clause_at f) g.grounds)) (map (line_of f) g.lines) (item_of f notes.Ground c) (no_lines r v f g p.form fit))
+    ∙ push_3 (inputs r v f g) (axioms r v f g) (members r v f g) (grounds r v f g) (steps r v f g) (shown r v f g) (covers r v f g) (input_group r v f g) (axiom_group r v f g) (own_members r v f g) (ground_group r v f g) (step_group r v f g) (shown_group r v f g) (cover_group r v f g) (item_of f notes.Ground c) (low r v f g p 3 l)
+pushed_items r v f g (notes.GroundBy k ts) c p l fit next =
     ap (λ (z : List Item). inputs r v f g ++ (axioms r v f g ++ (members r v f g ++ (z ++ (steps r v f g ++ (shown r v f g ++ covers r v f g))))))
     (ap (λ (z : List Item). ground_items (map (clause_at f) g.grounds) ++ z)
     (ap line_items (map_push (line_of f) g.lines (record { clause = c; input = k; terms = ts })) ∙ lines_push (map (line_of f) g.lines) (record { clause = clause_at f c; input = k; terms = map (tree_at f) ts }))
-    ∙ sym (append_assoc (ground_items (map (clause_at f) g.grounds)) (line_items (map (line_of f) g.lines)) (item_of f (notes.GroundBy k ts) c hs ∷ [])))
-    ∙ push_3 (inputs r v f g) (axioms r v f g) (members r v f g) (grounds r v f g) (steps r v f g) (shown r v f g) (covers r v f g) (input_group r v f g) (axiom_group r v f g) (own_members r v f g) (ground_group r v f g) (step_group r v f g) (shown_group r v f g) (cover_group r v f g) (item_of f (notes.GroundBy k ts) c hs) (low r v f g p 3 l)
-pushed_items r v f g notes.Hinted c hs p l fit next =
+    ∙ sym (append_assoc (ground_items (map (clause_at f) g.grounds)) (line_items (map (line_of f) g.lines)) (item_of f (notes.GroundBy k ts) c ∷ [])))
+    ∙ push_3 (inputs r v f g) (axioms r v f g) (members r v f g) (grounds r v f g) (steps r v f g) (shown r v f g) (covers r v f g) (input_group r v f g) (axiom_group r v f g) (own_members r v f g) (ground_group r v f g) (step_group r v f g) (shown_group r v f g) (cover_group r v f g) (item_of f (notes.GroundBy k ts) c) (low r v f g p 3 l)
+pushed_items r v f g (notes.Hinted hs) c p l fit next =
     ap (λ (z : List Item). inputs r v f g ++ (axioms r v f g ++ (members r v f g ++ (grounds r v f g ++ (z ++ (shown r v f g ++ covers r v f g))))))
     (ap step_items (map_push (step_of f) g.steps (record { clause = c; hints = hs })) ∙ steps_push (map (step_of f) g.steps) (record { clause = clause_at f c; hints = map hint_of hs }))
-    ∙ push_4 (inputs r v f g) (axioms r v f g) (members r v f g) (grounds r v f g) (steps r v f g) (shown r v f g) (covers r v f g) (input_group r v f g) (axiom_group r v f g) (own_members r v f g) (ground_group r v f g) (step_group r v f g) (shown_group r v f g) (cover_group r v f g) (item_of f notes.Hinted c hs) (low r v f g p 4 l)
-pushed_items r v f g (notes.InputBy by) c hs p l fit next =
+    ∙ push_4 (inputs r v f g) (axioms r v f g) (members r v f g) (grounds r v f g) (steps r v f g) (shown r v f g) (covers r v f g) (input_group r v f g) (axiom_group r v f g) (own_members r v f g) (ground_group r v f g) (step_group r v f g) (shown_group r v f g) (cover_group r v f g) (item_of f (notes.Hinted hs) c) (low r v f g p 4 l)
+pushed_items r v f g (notes.InputBy by) c p l fit next =
     ap (λ (z : List Item). inputs r v f g ++ (axioms r v f g ++ (members r v f g ++ (grounds r v f g ++ (steps r v f g ++ (z ++ covers r v f g))))))
     (ap (shown_items (base r v f g)) (map_push (by_of f) g.shown by) ∙ shown_push (base r v f g) (map (by_of f) g.shown) (clause_at f c) (by_of f by) (next_clause f g c next))
-    ∙ push_5 (inputs r v f g) (axioms r v f g) (members r v f g) (grounds r v f g) (steps r v f g) (shown r v f g) (covers r v f g) (input_group r v f g) (axiom_group r v f g) (own_members r v f g) (ground_group r v f g) (step_group r v f g) (shown_group r v f g) (cover_group r v f g) (item_of f (notes.InputBy by) c hs) (low r v f g p 5 l)
-pushed_items r v f g (notes.SideBy left right side by) c hs p l fit next =
+    ∙ push_5 (inputs r v f g) (axioms r v f g) (members r v f g) (grounds r v f g) (steps r v f g) (shown r v f g) (covers r v f g) (input_group r v f g) (axiom_group r v f g) (own_members r v f g) (ground_group r v f g) (step_group r v f g) (shown_group r v f g) (cover_group r v f g) (item_of f (notes.InputBy by) c) (low r v f g p 5 l)
+pushed_items r v f g (notes.SideBy left right side by) c p l fit next =
     ap (λ (z : List Item). inputs r v f g ++ (axioms r v f g ++ (members r v f g ++ (grounds r v f g ++ (steps r v f g ++ (shown r v f g ++ z))))))
     (ap cover_items (map_push (cover_of f) g.covers (record { left = left; right = right; side = side; clause = c; by = by }))
     ∙ covers_push (map (cover_of f) g.covers) (record { left = left; right = right; side = side_of side; clause = clause_at f c; by = by_of f by }))
-    ∙ push_6 (inputs r v f g) (axioms r v f g) (members r v f g) (grounds r v f g) (steps r v f g) (shown r v f g) (covers r v f g) (input_group r v f g) (axiom_group r v f g) (own_members r v f g) (ground_group r v f g) (step_group r v f g) (shown_group r v f g) (cover_group r v f g) (item_of f (notes.SideBy left right side by) c hs)
+    ∙ push_6 (inputs r v f g) (axioms r v f g) (members r v f g) (grounds r v f g) (steps r v f g) (shown r v f g) (covers r v f g) (input_group r v f g) (axiom_group r v f g) (own_members r v f g) (ground_group r v f g) (step_group r v f g) (shown_group r v f g) (cover_group r v f g) (item_of f (notes.SideBy left right side by) c)
 
-pub last_of : (r : Bool) (v : ℕ) (f : Forest) (g : Groups) (note : Note) (c : List (Signed ℕ)) (hs : List GroundHint) → items_of (shape_for r v) f (pushed note c hs g) ≡ items_of (shape_for r v) f g ++ item_of f note c hs ∷ []
-    → last_rank (items_of (shape_for r v) f (pushed note c hs g)) ≡ rank (note_of f note hs)
-last_of r v f g note c hs e = ap last_rank e ∙ last_push 0 (items_of (shape_for r v) f g) (item_of f note c hs)
+pub last_of : (r : Bool) (v : ℕ) (f : Forest) (g : Groups) (note : Note) (c : List (Signed ℕ)) → items_of (shape_for r v) f (pushed note c g) ≡ items_of (shape_for r v) f g ++ item_of f note c ∷ []
+    → last_rank (items_of (shape_for r v) f (pushed note c g)) ≡ rank (note_of f note)
+last_of r v f g note c e = ap last_rank e ∙ last_push 0 (items_of (shape_for r v) f g) (item_of f note c)
 
 one_longer : {A B : Type 0} (xs : List A) (ys : List B) (x : A) (y : B) → length xs ≡ length ys → length (xs ++ x ∷ []) ≡ length (ys ++ y ∷ [])
 one_longer xs ys x y h = length_push xs x ∙ ap (λ (n : ℕ). n + 1) h ∙ sym (length_push ys y)
 
-pub pushed_groups : (r : Bool) (v : ℕ) (f : Forest) (g : Groups) (note : Note) (c : List (Signed ℕ)) (hs : List GroundHint) → AreGroups (shape_for r v) f g → rank_of g.last ≤ rank (note_of f note hs) → Fits (shape_for r v) f note hs → ShowsNext note g c
-    → IsWholeClause f c → IsWholeNote f note → AreGroups (shape_for r v) f (pushed note c hs g)
-pushed_groups r v f g (notes.Named w) c hs p l fit next whole terms = record {
+pub pushed_groups : (r : Bool) (v : ℕ) (f : Forest) (g : Groups) (note : Note) (c : List (Signed ℕ)) → AreGroups (shape_for r v) f g → rank_of g.last ≤ rank (note_of f note) → Fits (shape_for r v) f note → ShowsNext note g c
+    → IsWholeClause f c → IsWholeNote f note → AreGroups (shape_for r v) f (pushed note c g)
+pushed_groups r v f g (notes.Named w) c p l fit next whole terms = record {
   bank = p.bank;
   inputs = All-push (IsWholeClause f) g.inputs c p.inputs whole;
   named = one_longer g.names g.inputs w c p.named;
@@ -323,9 +322,9 @@ pushed_groups r v f g (notes.Named w) c hs p l fit next whole terms = record {
   few = (let a = length_push g.inputs c in let b = p.few in omega arith);
   covers = p.covers;
   form = record { placed = p.form.placed; grounds = p.form.grounds; lines = p.form.lines; steps = p.form.steps; shown = p.form.shown; covers = p.form.covers };
-  last = last_of r v f g (notes.Named w) c hs (pushed_items r v f g (notes.Named w) c hs p l fit next);
+  last = last_of r v f g (notes.Named w) c (pushed_items r v f g (notes.Named w) c p l fit next);
 }
-pushed_groups r v f g notes.Equality c hs p l fit next whole terms = record {
+pushed_groups r v f g notes.Equality c p l fit next whole terms = record {
   bank = p.bank;
   inputs = p.inputs;
   named = p.named;
@@ -338,9 +337,9 @@ pushed_groups r v f g notes.Equality c hs p l fit next whole terms = record {
   few = (let a = length_push g.axioms c in let b = p.few in omega arith);
   covers = p.covers;
   form = record { placed = p.form.placed; grounds = p.form.grounds; lines = p.form.lines; steps = p.form.steps; shown = p.form.shown; covers = p.form.covers };
-  last = last_of r v f g notes.Equality c hs (pushed_items r v f g notes.Equality c hs p l fit next);
+  last = last_of r v f g notes.Equality c (pushed_items r v f g notes.Equality c p l fit next);
 }
-pushed_groups true v f g (notes.Member o) c hs p l fit next whole terms = record {
+pushed_groups true v f g (notes.Member o) c p l fit next whole terms = record {
   bank = p.bank;
   inputs = p.inputs;
   named = p.named;
@@ -353,11 +352,11 @@ pushed_groups true v f g (notes.Member o) c hs p l fit next whole terms = record
   few = p.few;
   covers = p.covers;
   form = record { placed = λ e. absurd cc; grounds = p.form.grounds; lines = p.form.lines; steps = p.form.steps; shown = p.form.shown; covers = p.form.covers };
-  last = last_of true v f g (notes.Member o) c hs (pushed_items true v f g (notes.Member o) c hs p l fit next);
+  last = last_of true v f g (notes.Member o) c (pushed_items true v f g (notes.Member o) c p l fit next);
 }
-pushed_groups false v f g (notes.Member o) c hs p l fit next whole terms = absurd cc
-pushed_groups true v f g (notes.Selected o k) c hs p l fit next whole terms = absurd cc
-pushed_groups false v f g (notes.Selected o k) c hs p l fit next whole terms = record {
+pushed_groups false v f g (notes.Member o) c p l fit next whole terms = absurd cc
+pushed_groups true v f g (notes.Selected o k) c p l fit next whole terms = absurd cc
+pushed_groups false v f g (notes.Selected o k) c p l fit next whole terms = record {
   bank = p.bank;
   inputs = p.inputs;
   named = p.named;
@@ -370,9 +369,9 @@ pushed_groups false v f g (notes.Selected o k) c hs p l fit next whole terms = r
   few = p.few;
   covers = p.covers;
   form = record { placed = λ e. one_longer g.places g.members k (record { clause = c; origin = o }) (p.form.placed e); grounds = p.form.grounds; lines = p.form.lines; steps = p.form.steps; shown = p.form.shown; covers = p.form.covers };
-  last = last_of false v f g (notes.Selected o k) c hs (pushed_items false v f g (notes.Selected o k) c hs p l fit next);
+  last = last_of false v f g (notes.Selected o k) c (pushed_items false v f g (notes.Selected o k) c p l fit next);
 }
-pushed_groups r v f g notes.Ground c hs p l fit next whole terms = record {
+pushed_groups r v f g notes.Ground c p l fit next whole terms = record {
   bank = p.bank;
   inputs = p.inputs;
   named = p.named;
@@ -385,9 +384,9 @@ pushed_groups r v f g notes.Ground c hs p l fit next whole terms = record {
   few = p.few;
   covers = p.covers;
   form = record { placed = p.form.placed; grounds = λ e. absurd (wrong_test (r && nat_eq v 1) fit e); lines = p.form.lines; steps = p.form.steps; shown = p.form.shown; covers = p.form.covers };
-  last = last_of r v f g notes.Ground c hs (pushed_items r v f g notes.Ground c hs p l fit next);
+  last = last_of r v f g notes.Ground c (pushed_items r v f g notes.Ground c p l fit next);
 }
-pushed_groups r v f g (notes.GroundBy k ts) c hs p l fit next whole terms = record {
+pushed_groups r v f g (notes.GroundBy k ts) c p l fit next whole terms = record {
   bank = p.bank;
   inputs = p.inputs;
   named = p.named;
@@ -400,9 +399,9 @@ pushed_groups r v f g (notes.GroundBy k ts) c hs p l fit next whole terms = reco
   few = p.few;
   covers = p.covers;
   form = record { placed = p.form.placed; grounds = p.form.grounds; lines = λ e. absurd (wrong_test (r && not (nat_eq v 1)) fit e); steps = p.form.steps; shown = p.form.shown; covers = p.form.covers };
-  last = last_of r v f g (notes.GroundBy k ts) c hs (pushed_items r v f g (notes.GroundBy k ts) c hs p l fit next);
+  last = last_of r v f g (notes.GroundBy k ts) c (pushed_items r v f g (notes.GroundBy k ts) c p l fit next);
 }
-pushed_groups r v f g notes.Hinted c hs p l fit next whole terms = record {
+pushed_groups r v f g (notes.Hinted hs) c p l fit next whole terms = record {
   bank = p.bank;
   inputs = p.inputs;
   named = p.named;
@@ -415,9 +414,9 @@ pushed_groups r v f g notes.Hinted c hs p l fit next whole terms = record {
   few = p.few;
   covers = p.covers;
   form = record { placed = p.form.placed; grounds = p.form.grounds; lines = p.form.lines; steps = λ e. absurd (wrong_test r fit e); shown = p.form.shown; covers = p.form.covers };
-  last = last_of r v f g notes.Hinted c hs (pushed_items r v f g notes.Hinted c hs p l fit next);
+  last = last_of r v f g (notes.Hinted hs) c (pushed_items r v f g (notes.Hinted hs) c p l fit next);
 }
-pushed_groups r v f g (notes.InputBy by) c hs p l fit next whole terms = record {
+pushed_groups r v f g (notes.InputBy by) c p l fit next whole terms = record {
   bank = p.bank;
   inputs = p.inputs;
   named = p.named;
@@ -430,9 +429,9 @@ pushed_groups r v f g (notes.InputBy by) c hs p l fit next whole terms = record 
   few = (let a = length_push g.shown by in let b = slice_get_within (g.inputs ++ g.axioms) (length g.shown) c next in let d = length-append g.inputs g.axioms in omega arith);
   covers = p.covers;
   form = record { placed = p.form.placed; grounds = p.form.grounds; lines = p.form.lines; steps = p.form.steps; shown = λ e. absurd (wrong_test (not r && nat_eq v 3) fit e); covers = p.form.covers };
-  last = last_of r v f g (notes.InputBy by) c hs (pushed_items r v f g (notes.InputBy by) c hs p l fit next);
+  last = last_of r v f g (notes.InputBy by) c (pushed_items r v f g (notes.InputBy by) c p l fit next);
 }
-pushed_groups r v f g (notes.SideBy left right side by) c hs p l fit next whole terms = record {
+pushed_groups r v f g (notes.SideBy left right side by) c p l fit next whole terms = record {
   bank = p.bank;
   inputs = p.inputs;
   named = p.named;
@@ -445,7 +444,7 @@ pushed_groups r v f g (notes.SideBy left right side by) c hs p l fit next whole 
   few = p.few;
   covers = All-push (IsWholeCover f) g.covers (record { left = left; right = right; side = side; clause = c; by = by }) p.covers (record { clause = whole; by = terms });
   form = record { placed = p.form.placed; grounds = p.form.grounds; lines = p.form.lines; steps = p.form.steps; shown = p.form.shown; covers = λ e. absurd (wrong_test (not r && nat_eq v 3) fit e) };
-  last = last_of r v f g (notes.SideBy left right side by) c hs (pushed_items r v f g (notes.SideBy left right side by) c hs p l fit next);
+  last = last_of r v f g (notes.SideBy left right side by) c (pushed_items r v f g (notes.SideBy left right side by) c p l fit next);
 }
 
 -- ---- a bank that has grown

@@ -7,7 +7,6 @@ use Rattle.term_bank.specs.Forest.{Forest, AreFormed, clause_at}
 use Rattle.cert_format.specs.LineMachine.{Item, last_rank}
 use Rattle.cert_format.specs.ValueLines.{input_items, axiom_items, member_items, selected_items, ground_items, line_items, step_items, shown_items, cover_items}
 use Rattle.cert_values.specs.declared.certificate.Base.{Base}
-use Rattle.cert_values.specs.declared.certificate.GroundHint.{GroundHint}
 use Rattle.cert_values.specs.declared.certificate.FirstRefutation.{FirstRefutation}
 use Rattle.cert_values.specs.declared.certificate.Refutation.{Refutation}
 use Rattle.cert_values.specs.declared.certificate.Saturation.{Saturation}
@@ -65,17 +64,17 @@ TakesTurn shape k g c = IsTrue (names_in shape) → IsInTurn k g c
 
 -- ---- one more item
 
--- with one more item, of this note, clause and hints
-abbrev pub pushed : Note → List (Signed ℕ) → List GroundHint → Groups → Groups
-pushed (notes.Named w) c hs g = record g { inputs = g.inputs ++ c ∷ []; names = g.names ++ w ∷ []; last = kinds.Input }
-pushed notes.Equality c hs g = record g { axioms = g.axioms ++ c ∷ []; last = kinds.Axiom }
-pushed (notes.Member o) c hs g = record g { members = g.members ++ record { clause = c; origin = o } ∷ []; last = kinds.Member }
-pushed (notes.Selected o p) c hs g = record g { members = g.members ++ record { clause = c; origin = o } ∷ []; places = g.places ++ p ∷ []; last = kinds.Member }
-pushed notes.Ground c hs g = record g { grounds = g.grounds ++ c ∷ []; last = kinds.Ground }
-pushed (notes.GroundBy k ts) c hs g = record g { lines = g.lines ++ record { clause = c; input = k; terms = ts } ∷ []; last = kinds.Ground }
-pushed notes.Hinted c hs g = record g { steps = g.steps ++ record { clause = c; hints = hs } ∷ []; last = kinds.Step }
-pushed (notes.InputBy by) c hs g = record g { shown = g.shown ++ by ∷ []; last = kinds.Shown }
-pushed (notes.SideBy left right side by) c hs g = record g { covers = g.covers ++ record { left = left; right = right; side = side; clause = c; by = by } ∷ []; last = kinds.Cover }
+-- with one more item, of this note and clause
+abbrev pub pushed : Note → List (Signed ℕ) → Groups → Groups
+pushed (notes.Named w) c g = record g { inputs = g.inputs ++ c ∷ []; names = g.names ++ w ∷ []; last = kinds.Input }
+pushed notes.Equality c g = record g { axioms = g.axioms ++ c ∷ []; last = kinds.Axiom }
+pushed (notes.Member o) c g = record g { members = g.members ++ record { clause = c; origin = o } ∷ []; last = kinds.Member }
+pushed (notes.Selected o p) c g = record g { members = g.members ++ record { clause = c; origin = o } ∷ []; places = g.places ++ p ∷ []; last = kinds.Member }
+pushed notes.Ground c g = record g { grounds = g.grounds ++ c ∷ []; last = kinds.Ground }
+pushed (notes.GroundBy k ts) c g = record g { lines = g.lines ++ record { clause = c; input = k; terms = ts } ∷ []; last = kinds.Ground }
+pushed (notes.Hinted hs) c g = record g { steps = g.steps ++ record { clause = c; hints = hs } ∷ []; last = kinds.Step }
+pushed (notes.InputBy by) c g = record g { shown = g.shown ++ by ∷ []; last = kinds.Shown }
+pushed (notes.SideBy left right side by) c g = record g { covers = g.covers ++ record { left = left; right = right; side = side; clause = c; by = by } ∷ []; last = kinds.Cover }
 
 -- ---- the items
 

@@ -8,9 +8,8 @@ ghost use Rattle.cert_reader.specs.Groups.{AreGroups, items_of};
 use crate::groups::Groups;
 use crate::lines::closing;
 use crate::next::next_item;
-use cert_items::{Shape, TextBank};
+use cert_items::{ItemReader, Shape};
 use inst_logic::Memory;
-use std::alloc::Global;
 
 /// How a text ends.
 #[derive(Clone, Copy)]
@@ -47,27 +46,25 @@ fn end_of(groups: &Groups, shape: Shape, line: usize, rest: &[u8]) -> Ending
 
 /// Reads the items and the last line of a text of the shape under this name, of which so many lines have been read, into the groups.
 pub fn read_items(
-    alloc: Global,
-    bank: &mut TextBank,
+    reader: &mut ItemReader,
     groups: &mut Groups,
     shape: Shape,
     name: &[u8],
     lines: usize,
     bytes: &[u8],
 ) -> Result<Ending, Memory>
-    requires groups { AreGroups shape bank.old groups.old }
+    requires groups { AreGroups shape reader.old groups.old }
     requires counted { lines + length bytes.now < 2 ^ 63 }
-    ensures groups { IfOk result (λ e. e ≡ Ending.Complete → AreGroups shape bank.new groups.new) }
-    ensures ends { (text : List ℕ) (h : Header) → shape_of h ≡ shape → h.name ≡ name.now → HasRead text h (items_of shape bank.old groups.old) lines bytes.now
-        → IfOk result (EndsSo text h (items_of shape bank.new groups.new)) }
+    ensures groups { IfOk result (λ e. e ≡ Ending.Complete → AreGroups shape reader.new groups.new) }
+    ensures ends { (text : List ℕ) (h : Header) → shape_of h ≡ shape → h.name ≡ name.now → HasRead text h (items_of shape reader.old groups.old) lines bytes.now
+        → IfOk result (EndsSo text h (items_of shape reader.new groups.new)) }
 {
-    let mut ids = Vec::new(alloc);
     let mut lines = lines;
     let mut rest = bytes;
     loop {
         match closing(shape.refutation, name, rest) {
             Some(behind) => return Ok(end_of(groups, shape, lines + 1, behind)),
-            None => match next_item(alloc, bank, &mut ids, groups, shape, rest) {
+            None => match next_item(reader, groups, shape, rest) {
                 Err(e) => return Err(e),
                 Ok(None) => return Ok(Ending::BadLine(lines + 1)),
                 Ok(Some(after)) => {

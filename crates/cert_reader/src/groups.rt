@@ -6,8 +6,8 @@ ghost use Rattle.cert_reader.specs.Groups.{base_count, count_of, names_in, IsInT
 
 use cert_items::{Group, Note, Shape};
 use cert_values::{
-    ByList, Cover, CoverList, GroundHintList, GroundLine, GroundLineList, GroundStep,
-    GroundStepList, Member, MemberList,
+    ByList, Cover, CoverList, GroundLine, GroundLineList, GroundStep, GroundStepList, Member,
+    MemberList,
 };
 use inst_logic::{Memory, NameList, PlaceList};
 use std::alloc::Global;
@@ -158,13 +158,8 @@ impl Groups {
     }
 
     /// Puts the item behind the others of its group.
-    pub fn push(
-        &mut self,
-        note: Note,
-        clause: IdClause,
-        hints: GroundHintList,
-    ) -> Result<(), Memory>
-        ensures { OnOk result (self.new ≡ pushed note clause hints self.old) }
+    pub fn push(&mut self, note: Note, clause: IdClause) -> Result<(), Memory>
+        ensures { OnOk result (self.new ≡ pushed note clause self.old) }
     {
         match note {
             Note::Named(name) => {
@@ -197,7 +192,7 @@ impl Groups {
                     terms,
                 })?;
             }
-            Note::Hinted => {
+            Note::Hinted(hints) => {
                 self.last = Group::Step;
                 self.steps.push(GroundStep { clause, hints })?;
             }

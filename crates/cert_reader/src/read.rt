@@ -21,7 +21,7 @@ use crate::groups::Groups;
 use crate::lines::constant;
 use crate::start::{Start, begin};
 use cert_items::symbol::name_of;
-use cert_items::{Shape, TextBank};
+use cert_items::{ItemReader, Shape};
 use cert_values::{Base, Covered, FirstRefutation, Refutation, Saturation};
 use inst_logic::{Kind, Memory, Name, Sym};
 use std::alloc::Global;
@@ -120,11 +120,11 @@ fn content_of(
     ensures complete { (text : List ℕ) (h : Header) → shape_of h ≡ shape → h.name ≡ name.now → HasRead text h [] lines bytes.now → IfOk result (λ c. IsComplete text h (items_of shape c.bank c.groups)) }
     ensures refused { (text : List ℕ) (h : Header) → shape_of h ≡ shape → h.name ≡ name.now → HasRead text h [] lines bytes.now → ¬ HasVersion text → IfErr result (IsCause text) }
 {
-    let mut bank = TextBank::new(alloc);
+    let mut reader = ItemReader::new(alloc);
     let mut groups = Groups::new(alloc);
-    match read_items(alloc, &mut bank, &mut groups, shape, name, lines, bytes) {
+    match read_items(&mut reader, &mut groups, shape, name, lines, bytes) {
         Ok(Ending::Complete) => Ok(Content {
-            bank: bank.into_bank(),
+            bank: reader.into_bank(),
             groups,
         }),
         Ok(Ending::BadLine(line)) => Err(CertError::Syntax { line }),

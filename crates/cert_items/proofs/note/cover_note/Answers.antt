@@ -21,7 +21,7 @@ returns-in_default-mark-clause-none c n =
     let s = c.in-Some in
     let k = c.in-Some-2 in
     let r = c.in_ok-by in
-    let f = c.read_by.new.bank in
+    let f = c.read_by.new.reader in
     let text = is_some r.field-0 (k.by, k.behind) (λ p. s.after.now ≡ by_text (by_of f p.0) p.1.now) k.is r.ensures.some in
     let good = is_some r.field-0 (k.by, k.behind) (λ p. IsTrue (by_is_printable (by_of f p.0))) k.is r.ensures.printable in
     no_cover_end c.args.shape n s.left s.right (side_of s.side) (by_of f k.by) c.args.bytes.now s.after.now k.behind.now s.ensures.some s.ensures.fits.0 s.ensures.fits.1 text good c.in_default-mark.ensures.none

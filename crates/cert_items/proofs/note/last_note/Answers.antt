@@ -7,6 +7,6 @@ pub returns-in-None-clause-none : goal.returns-in-None-clause-none
 returns-in-None-clause-none c =
     let k = c.in_ok-note in
     let s = c.in-Some in
-    let f = c.read_note.new.bank in
-    let a = is_some k.field-0 (s.note, s.behind) (λ p. IsNoteAt c.args.shape c.args.group c.args.n (note_of f p.0 c.read_note.new.hints) c.args.bytes.now p.1.now) s.is k.ensures.some in
-    no_end c.args.shape c.args.group c.args.n (note_of f s.note c.read_note.new.hints) c.args.bytes.now s.behind.now a c.in-None.ensures.none
+    let f = c.read_note.new.reader in
+    let a = is_some k.field-0 (s.note, s.behind) (λ p. IsNoteAt c.args.shape c.args.group c.args.n (note_of f p.0) c.args.bytes.now p.1.now) s.is k.ensures.some in
+    no_end c.args.shape c.args.group c.args.n (note_of f s.note) c.args.bytes.now s.behind.now a c.in-None.ensures.none

@@ -26,7 +26,7 @@ returns-in-None-clause-none c =
     let m = c.in-Some-mark in
     let r = c.in_ok-list in
     let k = c.in-Some-2 in
-    let f = c.term_list.new.bank in
+    let f = c.term_list.new.reader in
     let text = is_some r.field-0 (k.list, k.behind) (λ p. m.inner.now ≡ texts.terms (map (tree_at f) p.0) p.1.now) k.is r.ensures.some in
     let good = is_some r.field-0 (k.list, k.behind) (λ p. ArePrintable (map (tree_at f) p.0)) k.is r.ensures.printable in
     no_parenthesis c.args.bytes.now s.after.now s.n s.ensures.some s.ensures.fits m.inner.now k.behind.now (map (tree_at f) k.list) m.ensures.some text good c.in-None.ensures.none

@@ -16,13 +16,13 @@ returns-in-Ok-Complete-clause-complete c text h form name p =
     let s = c.args.shape in
     let g = c.read_items.new.groups in
     let k = c.in-Ok-Complete in
-    let first = from_nothing text h (items_of s c.new-bank.result c.new-groups.result) c.args.lines c.args.bytes.now (empty_items s c.new-bank.result c.new-groups.result c.new-groups.ensures) p in
+    let first = from_nothing text h (items_of s c.new-reader.result c.new-groups.result) c.args.lines c.args.bytes.now (empty_items s c.new-reader.result c.new-groups.result c.new-groups.ensures) p in
     subst (λ (f : Forest). IsComplete text h (items_of s f g)) (sym c.into_bank.ensures)
-    (complete_is text h (items_of s c.read_items.new.bank g) k.field-0 k.field-0-is (k.ensures.ends text h form name first))
+    (complete_is text h (items_of s c.read_items.new.reader g) k.field-0 k.field-0-is (k.ensures.ends text h form name first))
 
 pub returns-in-Ok-BadLine-clause-refused : goal.returns-in-Ok-BadLine-clause-refused
 returns-in-Ok-BadLine-clause-refused c text h form name p v =
     let s = c.args.shape in
     let k = c.in-Ok-BadLine in
-    let first = from_nothing text h (items_of s c.new-bank.result c.new-groups.result) c.args.lines c.args.bytes.now (empty_items s c.new-bank.result c.new-groups.result c.new-groups.ensures) p in
-    refused_syntax text k.line (bad_line_is text h (items_of s c.read_items.new.bank c.read_items.new.groups) k.field-0 k.line k.field-0-is (k.ensures.ends text h form name first)) v
+    let first = from_nothing text h (items_of s c.new-reader.result c.new-groups.result) c.args.lines c.args.bytes.now (empty_items s c.new-reader.result c.new-groups.result c.new-groups.ensures) p in
+    refused_syntax text k.line (bad_line_is text h (items_of s c.read_items.new.reader c.read_items.new.groups) k.field-0 k.line k.field-0-is (k.ensures.ends text h form name first)) v
