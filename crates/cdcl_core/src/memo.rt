@@ -75,7 +75,7 @@ impl Memo {
     }
 
     // Whether the atom follows from seen ones, where that is known.
-    pub(crate) fn known_to_follow(&self, atom: usize) -> Option<bool> {
+    pub(crate) fn follows_if_known(&self, atom: usize) -> Option<bool> {
         let finding = self.findings.get(atom).copied().unwrap_or(NO_FINDING);
         (finding.stamp == self.present).then_some(finding.follows)
     }

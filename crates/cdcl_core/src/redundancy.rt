@@ -23,7 +23,7 @@ fn follows_without_clause(trail: &Trail, seen: &Seen, atom: usize) -> Option<boo
     if !seen.has_level(level) {
         return Some(false);
     }
-    seen.known_to_follow(atom)
+    seen.follows_if_known(atom)
 }
 
 // Whether the atom follows from the marked ones by clauses of which at most so many are used one after the other.

@@ -106,7 +106,7 @@ impl Seen {
     }
 
     // Whether the atom follows from those that are seen, where that was noted.
-    pub(crate) fn known_to_follow(&self, atom: usize) -> Option<bool> {
-        self.memo.known_to_follow(atom)
+    pub(crate) fn follows_if_known(&self, atom: usize) -> Option<bool> {
+        self.memo.follows_if_known(atom)
     }
 }

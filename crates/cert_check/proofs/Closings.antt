@@ -7,7 +7,7 @@ use Rattle.inst_logic.specs.Clauses.{TreeClause, instance, IsCanonical}
 use Rattle.inst_logic.specs.Unifiers.{Sided, IsMostGeneral, IsProper}
 use Rattle.inst_logic.proofs.ShownLaws.{at_number_contains}
 use Rattle.inst_calculus.specs.Entries.{Entry}
-use Rattle.inst_calculus.specs.Models.{Member as Selected, member_clauses}
+use Rattle.inst_calculus.specs.Models.{SelectedClause, member_clauses}
 use Rattle.inst_calculus.specs.Saturation.{IsCovered}
 use Rattle.inst_calculus.proofs.CoveredInstances.{covered_when_grown}
 use Rattle.inst_calculus.proofs.Membership.{◌∈◌, in_all, in_map, from_map, contains_in, in_contains, equal_in}
@@ -50,11 +50,11 @@ module _ (c : Saturation) where
         let (s, h) = placed (suc k) (omega arith) (omega (arith, within)) in
         let e : s.clause ≡ d = h.clause ∙ ap (λ (x : Entry). x.clause) (same_item (slice_get (map (entry_of c.base.bank) c.base.members) k) h.entry (entry_of c.base.bank m) h.entry_at at) ∙ same in
         equal_in s.clause d (member_clauses (selected_members (saturation_of c))) e
-        (in_map (λ (x : Selected). x.clause) s (selected_members (saturation_of c)) (selected_is_member (saturation_of c) k s h))
+        (in_map (λ (x : SelectedClause). x.clause) s (selected_members (saturation_of c)) (selected_is_member (saturation_of c) k s h))
 
     from_selected : (d : TreeClause) → d ∈ member_clauses (selected_members (saturation_of c)) → d ∈ map (clause_of c.base.bank) c.base.members
     from_selected d i =
-        let (s, j, same) = from_map (λ (x : Selected). x.clause) d (selected_members (saturation_of c)) i in
+        let (s, j, same) = from_map (λ (x : SelectedClause). x.clause) d (selected_members (saturation_of c)) i in
         let (k, h) = selected_number (saturation_of c) s j in
         let (m, at, is) = slice_get_of_map (entry_of c.base.bank) c.base.members k h.entry h.entry_at in
         equal_in (clause_at c.base.bank m.clause) d (map (clause_of c.base.bank) c.base.members) (ap (λ (x : Entry). x.clause) is ∙ sym h.clause ∙ same)

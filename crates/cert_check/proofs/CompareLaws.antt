@@ -8,7 +8,7 @@ use Rattle.inst_logic.specs.declared.signed.Signed.{Signed}
 use Rattle.inst_logic.specs.Clauses.{IsCanonical, TreeClause, canonical_form, instance}
 use Rattle.inst_logic.specs.Unifiers.{Sided}
 use Rattle.inst_calculus.specs.Entries.{Entry}
-use Rattle.inst_calculus.specs.Models.{Member as Selected}
+use Rattle.inst_calculus.specs.Models.{SelectedClause}
 use Rattle.cert_format.specs.Certificate as format
 use Rattle.cert_format.specs.TermLists.{HoldsBy}
 use Rattle.cert_format.specs.Validity.{CoversAt, SelectsAt}
@@ -46,7 +46,7 @@ pub by_later : (f g : Forest) → Extends f g → (b : By) → IsWholeBy f b →
 by_later f g grown b whole = All-head (IsWholeBy g) b [] (bys_grown f g grown (b ∷ []) (All-cons (IsWholeBy f) b [] whole (All-nil (IsWholeBy f))))
 
 -- the clause of the side's member
-member_clause : (c : Saturation) (i : ℕ) (m : Member) → i < length c.base.members → m ≡ get_or c.base.members i m → (n : Selected) → SelectsAt (saturation_of c) (suc i) n → clause_at c.base.bank m.clause ≡ n.clause
+member_clause : (c : Saturation) (i : ℕ) (m : Member) → i < length c.base.members → m ≡ get_or c.base.members i m → (n : SelectedClause) → SelectsAt (saturation_of c) (suc i) n → clause_at c.base.bank m.clause ≡ n.clause
 member_clause c i m within is n sel =
     let f = c.base.bank in
     let (k, at, e) = slice_get_of_map (entry_of f) c.base.members i sel.entry sel.entry_at in
@@ -59,7 +59,7 @@ module _ (c : Saturation) (g : Forest) (grown : Extends c.base.bank g) (whole : 
   there : clause_at g v.clause ≡ clause_at c.base.bank v.clause
   there = clause_extends c.base.bank g grown v.clause cover.clause.ids
 
-  member_is : (r : Bool) → IsInstanceOf c.base.bank es x m.clause v.clause r → (s : Sided) → IsResolvedBy c.base.bank es s → (n : Selected) → SelectsAt (saturation_of c) (suc i) n
+  member_is : (r : Bool) → IsInstanceOf c.base.bank es x m.clause v.clause r → (s : Sided) → IsResolvedBy c.base.bank es s → (n : SelectedClause) → SelectsAt (saturation_of c) (suc i) n
       → IsTrue r ↔ (clause_at c.base.bank v.clause ≡ canonical_form (instance (of_side s x) n.clause))
   member_is r law s resolved n sel = subst (λ (w : TreeClause). IsTrue r ↔ (clause_at c.base.bank v.clause ≡ canonical_form (instance (of_side s x) w))) (member_clause c i m within is n sel) (law s resolved)
 

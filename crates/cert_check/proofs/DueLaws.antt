@@ -7,7 +7,7 @@ use Rattle.std.proofs.lemmas.List.{length-append}
 use Rattle.inst_logic.specs.Derivations.{at_number}
 use Rattle.inst_logic.specs.Unifiers.{Sided, IsProper}
 use Rattle.inst_calculus.specs.Entries.{Entry}
-use Rattle.inst_calculus.specs.Models.{Member}
+use Rattle.inst_calculus.specs.Models.{SelectedClause}
 use Rattle.term_bank.specs.Forest.{Forest}
 use Rattle.unify_core.specs.Sides.{Binding, IsResolvedBy, of_side}
 use Rattle.unify_core.specs.declared.side.Side.{Side}
@@ -36,13 +36,13 @@ meeting_gives c f g es later i j P Q R left right s resolved m n at_m at_n signs
 
 -- a side on which no unifier is proper
 pub side_gives_none : (c : Saturation) (f : Forest) (es : List Binding) (x : Side) (own other : ℕ)
-    → ((s : Sided) → IsResolvedBy f es s → (m n : Member) → IsGeneralOn x s m.selected.atom n.selected.atom → ¬ IsProper (of_side s x) m.selected.atom) → (P : List Due → Type 0) → GivesSide c f es x own other P P
+    → ((s : Sided) → IsResolvedBy f es s → (m n : SelectedClause) → IsGeneralOn x s m.selected.atom n.selected.atom → ¬ IsProper (of_side s x) m.selected.atom) → (P : List Due → Type 0) → GivesSide c f es x own other P P
 side_gives_none c f es x own other none P s resolved m n at_m at_n general = ([], inr (none s resolved m n general, refl), λ ds p. subst P (sym (append-nil ds)) p)
 
 -- and one on which it is
 pub side_gives_one : (c : Saturation) (f : Forest) (es : List Binding) (x : Side) (own other : ℕ)
-    → ((s : Sided) → IsResolvedBy f es s → (m n : Member) → IsGeneralOn x s m.selected.atom n.selected.atom → IsProper (of_side s x) m.selected.atom) → (P Q : List Due → Type 0)
-    → ((s : Sided) → IsResolvedBy f es s → (m n : Member) → SelectsAt c (suc own) m → SelectsAt c (suc other) n → IsGeneralOn x s m.selected.atom n.selected.atom → (ds : List Due) → P ds → Q (ds ++ due_of x own other m s ∷ []))
+    → ((s : Sided) → IsResolvedBy f es s → (m n : SelectedClause) → IsGeneralOn x s m.selected.atom n.selected.atom → IsProper (of_side s x) m.selected.atom) → (P Q : List Due → Type 0)
+    → ((s : Sided) → IsResolvedBy f es s → (m n : SelectedClause) → SelectsAt c (suc own) m → SelectsAt c (suc other) n → IsGeneralOn x s m.selected.atom n.selected.atom → (ds : List Due) → P ds → Q (ds ++ due_of x own other m s ∷ []))
     → GivesSide c f es x own other P Q
 side_gives_one c f es x own other proper P Q step s resolved m n at_m at_n general =
     (due_of x own other m s ∷ [], inl (proper s resolved m n general, refl), step s resolved m n at_m at_n general)

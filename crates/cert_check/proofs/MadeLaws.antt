@@ -9,7 +9,7 @@ use Rattle.inst_logic.specs.Tree.{Tree}
 use Rattle.inst_logic.specs.Unifiers.{Sided, IsMostGeneral, IsProper}
 use Rattle.inst_calculus.specs.Conclusions.{IsConclusion}
 use Rattle.inst_calculus.specs.Entries.{Entry}
-use Rattle.inst_calculus.specs.Models.{Member as Selected}
+use Rattle.inst_calculus.specs.Models.{SelectedClause}
 use Rattle.inst_calculus.proofs.CanonicalForms.{canonical_of_canonical}
 use Rattle.inst_calculus.proofs.Choice.{instance_of_choice, proper_of_choice, swapped, swapped_general}
 use Rattle.cert_format.specs.TermLists.{HoldsBy}
@@ -44,7 +44,7 @@ module _ (c : Saturation) (base : IsValidBase (base_of c.base)) (placed : HasPla
       (subst (λ (o : Origin). Gives (base_of c.base) (suc k) (origin_of o) (clause_at c.base.bank x.clause)) origin gives).2
 
   -- and a variant of the instance
-  module _ (m n : Selected) (at_m : SelectsAt (saturation_of c) (suc i) m) (at_n : SelectsAt (saturation_of c) (suc j) n) (d : TreeClause)
+  module _ (m n : SelectedClause) (at_m : SelectsAt (saturation_of c) (suc i) m) (at_n : SelectsAt (saturation_of c) (suc j) n) (d : TreeClause)
       (h : IsConclusion (map (entry_of c.base.bank) c.base.members) (suc i) place (suc j) other d) where
     entry : h.entry ≡ at_m.entry
     entry = same_item (at_number (map (entry_of c.base.bank) c.base.members) (suc i)) h.entry at_m.entry h.entry_at at_m.entry_at
@@ -93,7 +93,7 @@ module _ (c : Saturation) (base : IsValidBase (base_of c.base)) (placed : HasPla
 
   -- the clause of a member that was made so is the instance on the side
   made_left : (k : ℕ) (x : Member) → k < length c.base.members → x ≡ get_or c.base.members k x → x.origin ≡ Inst (suc i) place (suc j) other
-      → (m n : Selected) → SelectsAt (saturation_of c) (suc i) m → SelectsAt (saturation_of c) (suc j) n → (s : Sided) → IsMostGeneral s m.selected.atom n.selected.atom → clause_at c.base.bank x.clause ≡ canonical_form (instance s.left m.clause)
+      → (m n : SelectedClause) → SelectsAt (saturation_of c) (suc i) m → SelectsAt (saturation_of c) (suc j) n → (s : Sided) → IsMostGeneral s m.selected.atom n.selected.atom → clause_at c.base.bank x.clause ≡ canonical_form (instance s.left m.clause)
   made_left k x within is origin m n at_m at_n s general =
       let h = conclusion_at k x within is origin in
       let d = clause_at c.base.bank x.clause in
@@ -102,7 +102,7 @@ module _ (c : Saturation) (base : IsValidBase (base_of c.base)) (placed : HasPla
       sym own ∙ sym v
 
   pub made_instance : (k : ℕ) (x : Member) → k < length c.base.members → x ≡ get_or c.base.members k x → x.origin ≡ Inst (suc i) place (suc j) other
-      → (side : Side) (m n : Selected) → SelectsAt (saturation_of c) (suc i) m → SelectsAt (saturation_of c) (suc j) n → (s : Sided) → IsGeneralOn side s m.selected.atom n.selected.atom
+      → (side : Side) (m n : SelectedClause) → SelectsAt (saturation_of c) (suc i) m → SelectsAt (saturation_of c) (suc j) n → (s : Sided) → IsGeneralOn side s m.selected.atom n.selected.atom
       → clause_at c.base.bank x.clause ≡ canonical_form (instance (of_side s side) m.clause)
   made_instance k x within is origin Left m n at_m at_n s general = made_left k x within is origin m n at_m at_n s general
   made_instance k x within is origin Right m n at_m at_n s general = made_left k x within is origin m n at_m at_n (swapped s) (swapped_general s n.selected.atom m.selected.atom general)
@@ -125,7 +125,7 @@ module _ (c : Saturation) (base : IsValidBase (base_of c.base)) (placed : HasPla
   gives : IsConclusion (map (entry_of c.base.bank) c.base.members) (suc due.own) h.place (suc due.other) h.other (clause_at c.base.bank h.member.clause)
   gives = conclusion_at c base placed due.own due.other h.place h.other h.here h.there found.0 h.member within is h.origin
 
-  module _ (m n : Selected) (at_m : SelectsAt (saturation_of c) (suc due.own) m) (at_n : SelectsAt (saturation_of c) (suc due.other) n) where
+  module _ (m n : SelectedClause) (at_m : SelectsAt (saturation_of c) (suc due.own) m) (at_n : SelectsAt (saturation_of c) (suc due.other) n) where
     -- the selected literals meet
     pub made_meets : (m.selected.positive ≢ n.selected.positive) × (s : Sided) × IsGeneralOn due.side s m.selected.atom n.selected.atom
     made_meets = by due.side

@@ -6,7 +6,7 @@ use Rattle.std.proofs.lemmas.Option.{slice_get_within}
 use Rattle.inst_logic.specs.Substitution.{Substitution, tree_vars}
 use Rattle.inst_logic.specs.Tree.{Tree}
 use Rattle.inst_logic.specs.Unifiers.{Sided, IsProper}
-use Rattle.inst_calculus.specs.Models.{Member}
+use Rattle.inst_calculus.specs.Models.{SelectedClause}
 use Rattle.cert_format.specs.Dues.{meeting}
 use Rattle.cert_format.specs.Validity.{CoversAt, IsProperPair, IsValidBase, SelectsAt}
 use Rattle.cert_values.specs.declared.certificate.Covered.{Covered}
@@ -33,11 +33,11 @@ made_within c v i j place count (on_both h k is) = let w = slice_get_within v.co
 made_within c v i j place count (on_right h ground is) = let w = slice_get_within v.covers place h.cover h.at in omega (arith, w, is)
 
 module _ (c : Covered) (base : IsValidBase (base_of c.cert.base)) (placed : HasPlaces (saturation_of c.cert)) where
-  member_at : (k : ℕ) → k < length c.cert.base.members → (m : Member) × SelectsAt (saturation_of c.cert) (suc k) m
+  member_at : (k : ℕ) → k < length c.cert.base.members → (m : SelectedClause) × SelectsAt (saturation_of c.cert) (suc k) m
   member_at k less = let e = length-map c.cert.base.members (entry_of c.cert.base.bank) in placed (suc k) (omega arith) (omega (arith, e, less))
 
   -- the cover is one of what is due
-  covers_there : (due : DueSide) (place : ℕ) (h : IsMadeAt c.cert c.covers due place) (m n : Member) → SelectsAt (saturation_of c.cert) (suc due.own) m → SelectsAt (saturation_of c.cert) (suc due.other) n
+  covers_there : (due : DueSide) (place : ℕ) (h : IsMadeAt c.cert c.covers due place) (m n : SelectedClause) → SelectsAt (saturation_of c.cert) (suc due.own) m → SelectsAt (saturation_of c.cert) (suc due.other) n
       → (s : Sided) → IsGeneralOn due.side s m.selected.atom n.selected.atom
       → CoversAt (saturation_of c.cert).base.members (Some (due_of due.side due.own due.other m s)) (slice_get (covered_of c).covers place)
   covers_there due place h m n at_m at_n s general =

@@ -1,4 +1,4 @@
--- What is named for a clause covers it, or shows it.
+-- What is named for a clause covers it, or justifies it.
 use Rattle.std.proofs.Common.{◌≡◌, inl, inr, ℕ, zero, suc, ◌+◌, ◌<◌, List, [], ◌∷◌, ◌++◌, true, false, length, map, get_or, Option, None, Some, refl, ap, sym, ◌∙◌, subst, arith}
 use Rattle.std.specs.Prelude.{All, Any, IfNone, IfSome, option_map}
 use Rattle.std.specs.List.{AllZip}
@@ -13,7 +13,7 @@ use Rattle.inst_logic.specs.Derivations.{at_number}
 use Rattle.inst_logic.specs.Unifiers.{Sided}
 use Rattle.inst_logic.specs.WellFormed.{IsAtom, IsFormedClause, atom_is_formed}
 use Rattle.inst_calculus.specs.Entries.{Entry}
-use Rattle.inst_calculus.specs.Models.{Member as Selected}
+use Rattle.inst_calculus.specs.Models.{SelectedClause}
 use Rattle.inst_calculus.proofs.Membership.{in_all, in_map, passes}
 use Rattle.inst_calculus.specs.Saturation.{IsCovered}
 use Rattle.cert_format.specs.Certificate as format
@@ -107,7 +107,7 @@ none_covers f ms n c distinct ids canonical inside form other unknown longer cov
 
 module _ (f g : Forest) (ms : List Member) (c : List (Signed ℕ)) where
   pub tautology_shows : IsTautology (clause_at f c) → IsShownBy f g ms c Tautology
-  tautology_shows t = record { whole = tt; shows = t; met = inl t }
+  tautology_shows t = record { whole = tt; justified = t; met = inl t }
 
   pub part_shows : (k : ℕ) → IsPlaceOf (λ m. Subsumes (clause_at f m.clause) (clause_at f c)) ms k → (by : By) → IsPartOf f g ms k c by → IsShownBy f g ms c by
   part_shows k place by h =
@@ -115,7 +115,7 @@ module _ (f g : Forest) (ms : List Member) (c : List (Signed ℕ)) where
       let part : IsPartBy (clause_at f m.clause) (clause_at f c) (map (tree_at g) h.terms) = subst (λ (x : Member). IsPartBy (clause_at f x.clause) (clause_at f c) (map (tree_at g) h.terms)) is (h.part m) in
       record {
         whole = subst (IsWholeBy g) (sym h.is) h.whole;
-        shows = subst (λ (b : By). Justifies (map (entry_of f) ms) (clause_at f c) (by_of g b)) (sym h.is) (entry_of f m, entry_there f ms k (suc k) refl m place.within is, part);
+        justified = subst (λ (b : By). Justifies (map (entry_of f) ms) (clause_at f c) (by_of g b)) (sym h.is) (entry_of f m, entry_there f ms k (suc k) refl m place.within is, part);
         met = inr (any_of_place (λ m. Subsumes (clause_at f m.clause) (clause_at f c)) ms k place);
       }
 
@@ -203,7 +203,7 @@ cover_added_whole old s whole kept here v more = record {
   covers = All-push (IsWholeCover s.base.bank) old.covers v (covers_grown old.cert.base.bank s.base.bank kept.base.bank old.covers whole.covers) more;
 }
 
-pub due_covered : (old new : Saturation) (es : List Binding) (x : Side) (own other : ℕ) (d : Named) → NamesSide old new es x (suc own) d → (s : Sided) → IsResolvedBy old.base.bank es s → (m : Selected) → SelectsAt (saturation_of old) (suc own) m
+pub due_covered : (old new : Saturation) (es : List Binding) (x : Side) (own other : ℕ) (d : Named) → NamesSide old new es x (suc own) d → (s : Sided) → IsResolvedBy old.base.bank es s → (m : SelectedClause) → SelectsAt (saturation_of old) (suc own) m
     → IsCoverOf (saturation_of old).base.members (due_of x own other m s) (cover_of new.base.bank (record { left = left_number x own other; right = right_number x own other; side = x; clause = d.clause; by = d.by }))
 due_covered old new es x own other d h s resolved m sel = record { left = refl; right = refl; side = refl; clause = (h.names s resolved m sel).0; holds = (h.names s resolved m sel).1 }
 

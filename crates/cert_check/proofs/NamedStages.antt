@@ -24,7 +24,7 @@ pub named_by : (c : Covered) → IsValidBase (base_of c.cert.base) → HasPlaces
 named_by c base placed shown pairs ds due named =
     all_right (covered_of c) base placed shown (λ l r less m n i j o u g. (pairs l r less m n i j o u g).proper) (all_named (covered_of c) ds due named)
 
--- what shows the inputs stays while the bank and the covers grow
+-- what justifies the inputs stays while the bank and the covers grow
 pub shown_stays : (old new : Covered) → IsWholeCovered old → GrowsCovers old new → (k : ℕ) → IsShownInput (covered_of old) k → IsShownInput (covered_of new) k
 shown_stays old new whole kept k h =
     let same : saturation_of new.cert ≡ saturation_of old.cert = saturation_same old.cert new.cert whole.cert kept.cert in

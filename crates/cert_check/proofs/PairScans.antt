@@ -6,7 +6,7 @@ use Rattle.std.proofs.lemmas.Option.{slice_get_within}
 use Rattle.inst_logic.specs.declared.signed.Signed.{Signed}
 use Rattle.inst_logic.specs.Tree.{Tree}
 use Rattle.inst_logic.specs.Unifiers.{Sided, IsMostGeneral, IsProper}
-use Rattle.inst_calculus.specs.Models.{Member}
+use Rattle.inst_calculus.specs.Models.{SelectedClause}
 use Rattle.inst_calculus.specs.Saturation.{IsClosed}
 use Rattle.inst_calculus.proofs.Choice.{closed_of_choice, proper_of_choice}
 use Rattle.term_bank.specs.Forest.{Forest, Extends, tree_at}
@@ -97,16 +97,16 @@ module _ (c : format.Saturation) (P : ℕ → ℕ → Type 0) (of : IsOfPairs c 
 
 -- one pair
 module _ (c : Saturation) (i j : ℕ) (less : i < j) (l r : Signed ℕ) (left : IsSelectedLiteral c (suc i) l) (right : IsSelectedLiteral c (suc j) r) where
-  same_left : (m : Member) → SelectsAt (saturation_of c) (suc i) m → m ≡ left.member
+  same_left : (m : SelectedClause) → SelectsAt (saturation_of c) (suc i) m → m ≡ left.member
   same_left = apart.same_left c i j less l r left right
 
-  same_right : (m : Member) → SelectsAt (saturation_of c) (suc j) m → m ≡ right.member
+  same_right : (m : SelectedClause) → SelectsAt (saturation_of c) (suc j) m → m ≡ right.member
   same_right = apart.same_right c i j less l r left right
 
-  left_atom : (m : Member) → SelectsAt (saturation_of c) (suc i) m → m.selected.atom ≡ tree_at c.base.bank l.atom
+  left_atom : (m : SelectedClause) → SelectsAt (saturation_of c) (suc i) m → m.selected.atom ≡ tree_at c.base.bank l.atom
   left_atom = apart.left_atom c i j less l r left right
 
-  right_atom : (m : Member) → SelectsAt (saturation_of c) (suc j) m → m.selected.atom ≡ tree_at c.base.bank r.atom
+  right_atom : (m : SelectedClause) → SelectsAt (saturation_of c) (suc j) m → m.selected.atom ≡ tree_at c.base.bank r.atom
   right_atom = apart.right_atom c i j less l r left right
 
   pub general_here : (s : Sided) → IsMostGeneral s (tree_at c.base.bank l.atom) (tree_at c.base.bank r.atom) → IsMostGeneral s left.member.selected.atom right.member.selected.atom
@@ -121,11 +121,11 @@ module _ (c : Saturation) (i j : ℕ) (less : i < j) (l r : Signed ℕ) (left : 
   pub closed_right : (s : Sided) → IsMostGeneral s (tree_at c.base.bank l.atom) (tree_at c.base.bank r.atom) → IsClosed (selected_members (saturation_of c)) left.member right.member s
       → IsRightPair (saturation_of c) (suc i) (suc j)
   closed_right s g closed below m n p q signs u k =
-      let a : IsMostGeneral u left.member.selected.atom n.selected.atom = subst (λ (x : Member). IsMostGeneral u x.selected.atom n.selected.atom) (same_left m p) k in
-      let b : IsMostGeneral u left.member.selected.atom right.member.selected.atom = subst (λ (x : Member). IsMostGeneral u left.member.selected.atom x.selected.atom) (same_right n q) a in
+      let a : IsMostGeneral u left.member.selected.atom n.selected.atom = subst (λ (x : SelectedClause). IsMostGeneral u x.selected.atom n.selected.atom) (same_left m p) k in
+      let b : IsMostGeneral u left.member.selected.atom right.member.selected.atom = subst (λ (x : SelectedClause). IsMostGeneral u left.member.selected.atom x.selected.atom) (same_right n q) a in
       let h : IsClosed (selected_members (saturation_of c)) left.member right.member u = closed_of_choice (selected_members (saturation_of c)) left.member right.member s (general_here s g) closed u b in
-      let d : IsClosed (selected_members (saturation_of c)) m right.member u = subst (λ (x : Member). IsClosed (selected_members (saturation_of c)) x right.member u) (sym (same_left m p)) h in
-      subst (λ (x : Member). IsClosed (selected_members (saturation_of c)) m x u) (sym (same_right n q)) d
+      let d : IsClosed (selected_members (saturation_of c)) m right.member u = subst (λ (x : SelectedClause). IsClosed (selected_members (saturation_of c)) x right.member u) (sym (same_left m p)) h in
+      subst (λ (x : SelectedClause). IsClosed (selected_members (saturation_of c)) m x u) (sym (same_right n q)) d
 
   pub right_closed : ¬ (l.positive ≡ r.positive) → (s : Sided) → IsMostGeneral s (tree_at c.base.bank l.atom) (tree_at c.base.bank r.atom)
       → IsRightPair (saturation_of c) (suc i) (suc j) → IsClosed (selected_members (saturation_of c)) left.member right.member s

@@ -4,7 +4,7 @@ use Rattle.std.specs.Prelude.{◌↔◌, Contains, IsTrue}
 use Rattle.inst_logic.specs.Clauses.{TreeClause, canonical_form, instance}
 use Rattle.inst_logic.specs.Derivations.{at_number}
 use Rattle.inst_calculus.specs.Entries.{Entry}
-use Rattle.inst_calculus.specs.Models.{Member as Selected, member_clauses}
+use Rattle.inst_calculus.specs.Models.{SelectedClause, member_clauses}
 use Rattle.inst_calculus.specs.Saturation.{IsCovered, tautology, variant, shorter}
 use Rattle.inst_calculus.proofs.CanonicalForms.{canonical_of_canonical}
 use Rattle.inst_calculus.proofs.CoveredInstances.{covered_when_renamed}
@@ -45,7 +45,7 @@ module _ (c : format.Saturation) (placed : HasPlaces c) where
       let same : h.entry ≡ e = same_item (at_number c.base.members (suc k)) h.entry e h.entry_at at in
       in_contains e.clause (member_clauses (selected_members c))
       (subst (λ (d : TreeClause). d ∈ member_clauses (selected_members c)) (h.clause ∙ ap (λ (x : Entry). x.clause) same)
-      (in_map (λ (x : Selected). x.clause) m (selected_members c) (selected_is_member c k m h)))
+      (in_map (λ (x : SelectedClause). x.clause) m (selected_members c) (selected_is_member c k m h)))
 
   covered_by : (whole d : TreeClause) (by : format.By) → HoldsBy c.base.members whole d by → IsCovered (member_clauses (selected_members c)) whole d
   covered_by whole d by_tautology h = tautology h

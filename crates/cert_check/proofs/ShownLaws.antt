@@ -19,7 +19,7 @@ use Rattle.cert_values.specs.declared.certificate.Saturation.{Saturation}
 use Rattle.cert_values.specs.Values.{base_of, by_of, covered_of, saturation_of}
 use Rattle.cert_values.specs.Wholes.{IsWholeBy, IsWholeCovered, KeepsSaturation}
 use Rattle.cert_values.proofs.Grown.{bys_same}
-use Rattle.cert_check.specs.Names.{IsShownBy, IsUnshown, ShowsInput}
+use Rattle.cert_check.specs.Names.{IsShownBy, IsUnshown, JustifiesInput}
 use Rattle.cert_check.proofs.DueLaws.{slice_left, slice_end, slice_past}
 use Rattle.cert_check.proofs.InputScans.{all_stated, right_input, stated_at}
 
@@ -33,10 +33,10 @@ module _ (c : Saturation) (valid : IsValidBase (base_of c.base)) (k : ℕ) where
     there : at_number (with_axioms (saturation_of c).base.inputs) k ≡ Some (clause_at c.base.bank d)
     there = stated_at c valid k ∙ ap (option_map (clause_at c.base.bank)) at
 
-    pub input_shown : (new : Saturation) (by : By) → IsShownBy c.base.bank new.base.bank c.base.members d by → ShowsInput c new k by
+    pub input_shown : (new : Saturation) (by : By) → IsShownBy c.base.bank new.base.bank c.base.members d by → JustifiesInput c new k by
     input_shown new by h = record {
       whole = h.whole;
-      shows = λ e here. subst (λ (x : TreeClause). Justifies (saturation_of c).base.members x (by_of new.base.bank by)) (same_Some (clause_at c.base.bank d) e (sym there ∙ here)) h.shows;
+      justified = λ e here. subst (λ (x : TreeClause). Justifies (saturation_of c).base.members x (by_of new.base.bank by)) (same_Some (clause_at c.base.bank d) e (sym there ∙ here)) h.justified;
     }
 
     pub input_right : (new : Saturation) (by : By) → IsShownBy c.base.bank new.base.bank c.base.members d by → IsRightInput (saturation_of c) k
@@ -81,12 +81,12 @@ module _ (c : Saturation) (valid : IsValidBase (base_of c.base)) (k : ℕ) where
 
 shown_push : (es : List Entry) (ds : List TreeClause) (bs : List format.By) (b : format.By) (i : ℕ) → length bs ≡ i → (d : TreeClause) → slice_get ds i ≡ Some d → Justifies es d b
     → ((k : ℕ) → k < i → JustifiesAt es (slice_get ds k) (slice_get bs k)) → (k : ℕ) → k < i + 1 → JustifiesAt es (slice_get ds k) (slice_get (bs ++ b ∷ []) k)
-shown_push es ds bs b i count d at shows before k less = elim (cases_lt k i) [
+shown_push es ds bs b i count d at justified before k less = elim (cases_lt k i) [
   | inl early ↦ subst (JustifiesAt es (slice_get ds k)) (sym (slice_left bs (b ∷ []) k (omega (arith, early, count)))) (before k early)
   | inr late ↦
       let e : i ≡ k = omega (arith, late, less) in
       subst (λ x. JustifiesAt es (slice_get ds x) (slice_get (bs ++ b ∷ []) x)) e
-      (subst (λ x. JustifiesAt es x (slice_get (bs ++ b ∷ []) i)) (sym at) (subst (JustifiesAt es (Some d)) (sym (slice_end bs b i (sym count))) shows))
+      (subst (λ x. JustifiesAt es x (slice_get (bs ++ b ∷ []) i)) (sym at) (subst (JustifiesAt es (Some d)) (sym (slice_end bs b i (sym count))) justified))
 ]
 
 slice_within : {A : Type 0} (xs : List A) (k : ℕ) → k < length xs → (x : A) × (slice_get xs k ≡ Some x)
@@ -105,10 +105,10 @@ stated_some c valid i less none =
     absurd cc
 
 module _ (old : Covered) (s : Saturation) (whole : IsWholeCovered old) (kept : KeepsSaturation old.cert s) (by : By) (i : ℕ) where
-  pub shown_more : IsValidBase (base_of old.cert.base) → i < length old.cert.base.inputs + length old.cert.base.axioms → length old.shown ≡ i → ShowsInput old.cert s (suc i) by
+  pub shown_more : IsValidBase (base_of old.cert.base) → i < length old.cert.base.inputs + length old.cert.base.axioms → length old.shown ≡ i → JustifiesInput old.cert s (suc i) by
       → ((k : ℕ) → k < i → JustifiesAt (saturation_of old.cert).base.members (slice_get (with_axioms (saturation_of old.cert).base.inputs) k) (slice_get (covered_of old).shown k))
       → (k : ℕ) → k < i + 1 → JustifiesAt (saturation_of old.cert).base.members (slice_get (with_axioms (saturation_of old.cert).base.inputs) k) (slice_get (map (by_of s.base.bank) (old.shown ++ by ∷ [])) k)
-  shown_more valid within count shows before =
+  shown_more valid within count justified before =
       let f = old.cert.base.bank in
       let g = s.base.bank in
       let (d, at) = slice_within (with_axioms (saturation_of old.cert).base.inputs) i (omega (arith, within, stated_length old.cert valid)) in
@@ -116,7 +116,7 @@ module _ (old : Covered) (s : Saturation) (whole : IsWholeCovered old) (kept : K
       ap (λ xs. xs ++ by_of g by ∷ []) (sym (bys_same f g kept.base.bank old.shown whole.shown)) ∙ sym (map-append (by_of g) old.shown (by ∷ [])) in
       let long : length (map (by_of f) old.shown) ≡ i = length-map old.shown (by_of f) ∙ count in
       subst (λ xs. (k : ℕ) → k < i + 1 → JustifiesAt (saturation_of old.cert).base.members (slice_get (with_axioms (saturation_of old.cert).base.inputs) k) (slice_get xs k)) same
-      (shown_push (saturation_of old.cert).base.members (with_axioms (saturation_of old.cert).base.inputs) (map (by_of f) old.shown) (by_of g by) i long d at (shows.shows d at) before)
+      (shown_push (saturation_of old.cert).base.members (with_axioms (saturation_of old.cert).base.inputs) (map (by_of f) old.shown) (by_of g by) i long d at (justified.justified d at) before)
 
 -- all of them
 pub all_shown : (c : Covered) → IsValidBase (base_of c.cert.base) → (i : ℕ) → length c.cert.base.inputs + length c.cert.base.axioms ≤ i → length c.shown ≡ i

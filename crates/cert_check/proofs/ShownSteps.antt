@@ -1,4 +1,4 @@
--- A scan of the inputs and axioms that adds what shows each.
+-- A scan of the inputs and axioms that adds what justifies each.
 use Rattle.std.proofs.Common.{◌≡◌, ◌≢◌, ◌∙◌, ℕ, suc, ◌+◌, ◌<◌, ◌≤◌, List, [], ◌∷◌, ◌++◌, length, map, None, ap, refl, sym, subst, arith, below_more}
 use Rattle.std.specs.Prelude.{slice_get}
 use Rattle.std.proofs.lemmas.List.{length-append}
@@ -16,12 +16,12 @@ use Rattle.cert_values.specs.Wholes.{IsWholeBy, IsWholeCovered, IsWholeSaturatio
 use Rattle.cert_values.proofs.Grown.{bys_grown, covers_grown}
 use Rattle.cert_values.proofs.Kept.{saturation_same}
 use Rattle.cert_check.specs.DueSteps.{GrowsShown}
-use Rattle.cert_check.specs.Names.{ShowsInput}
+use Rattle.cert_check.specs.Names.{JustifiesInput}
 use Rattle.cert_check.proofs.CoverGrowth.{shown_itself, shown_trans}
 use Rattle.cert_check.proofs.PairScans.{valid_kept}
 use Rattle.cert_check.proofs.ShownLaws.{all_shown, shown_more, stated_some}
 
--- what was added shows the first i of them
+-- what was added justifies the first i of them
 pub record ShowsUpTo (start now : Covered) (i : ℕ) : Type 0 where
   pub kept : GrowsShown start now
   pub whole : IsWholeCovered now
@@ -58,7 +58,7 @@ module _ (start now : Covered) (i : ℕ) (whole : IsWholeCovered start) (valid :
         none (subst (λ n. at_number (with_axioms (saturation_of now.cert).base.inputs) n ≢ None) (sym e) (stated_some now.cert base_valid i (omega (arith, within, stated))))
         (subst (λ n. IsRightInput (saturation_of now.cert) n) (sym e) (subst (λ (x : format.Saturation). IsRightInput x (suc i)) (sym same) right))
 
-    module _ (s : Saturation) (by : By) (keeps : KeepsSaturation now.cert s) (here : IsWholeSaturation s) (shows : ShowsInput now.cert s (i + 1) by) (right : IsRightInput (saturation_of now.cert) (i + 1)) where
+    module _ (s : Saturation) (by : By) (keeps : KeepsSaturation now.cert s) (here : IsWholeSaturation s) (justified : JustifiesInput now.cert s (i + 1) by) (right : IsRightInput (saturation_of now.cert) (i + 1)) where
       later : saturation_of s ≡ saturation_of now.cert
       later = saturation_same now.cert s h.whole.cert keeps
 
@@ -70,14 +70,14 @@ module _ (start now : Covered) (i : ℕ) (whole : IsWholeCovered start) (valid :
         kept = shown_trans start now (record now { cert = s; shown = now.shown ++ by ∷ [] }) h.kept (record { cert = keeps; rest = refl });
         whole = record {
           cert = here;
-          shown = All-push (IsWholeBy s.base.bank) now.shown by (bys_grown now.cert.base.bank s.base.bank keeps.base.bank now.shown h.whole.shown) shows.whole;
+          shown = All-push (IsWholeBy s.base.bank) now.shown by (bys_grown now.cert.base.bank s.base.bank keeps.base.bank now.shown h.whole.shown) justified.whole;
           covers = covers_grown now.cert.base.bank s.base.bank keeps.base.bank now.covers h.whole.covers;
         };
         count = length-append now.shown (by ∷ []) ∙ (let e = h.count in omega (arith, e));
         right = below_more (λ k. IsRightInput (saturation_of start.cert) (suc k)) i h.right
             (subst (λ (x : format.Saturation). IsRightInput x (suc i)) same (subst (λ n. IsRightInput (saturation_of now.cert) n) number right));
         shown = subst (λ (x : format.Saturation). (k : ℕ) → k < i + 1 → JustifiesAt x.base.members (slice_get (with_axioms x.base.inputs) k) (slice_get (map (by_of s.base.bank) (now.shown ++ by ∷ [])) k)) (sym later)
-            (shown_more now s h.whole keeps by i base_valid (omega (arith, within, stated)) h.count (subst (λ n. ShowsInput now.cert s n by) number shows) h.shown);
+            (shown_more now s h.whole keeps by i base_valid (omega (arith, within, stated)) h.count (subst (λ n. JustifiesInput now.cert s n by) number justified) h.shown);
       }
 
   pub shows_all : length start.cert.base.inputs + length start.cert.base.axioms ≤ i → (n : ℕ) → IsShownInput (covered_of now) n

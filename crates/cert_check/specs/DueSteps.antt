@@ -3,7 +3,7 @@ use Rattle.std.specs.Prelude.{◌≡◌, ◌≢◌, ℕ, suc, ◌-◌, ◌<◌, 
 use Rattle.std.specs.List.{AllZip}
 use Rattle.inst_logic.specs.Clauses.{instance, canonical_form}
 use Rattle.inst_logic.specs.Unifiers.{Sided, IsMostGeneral}
-use Rattle.inst_calculus.specs.Models.{Member}
+use Rattle.inst_calculus.specs.Models.{SelectedClause}
 use Rattle.term_bank.specs.Forest.{Forest}
 use Rattle.unify_core.specs.Sides.{Binding, IsResolvedBy, of_side}
 use Rattle.unify_core.specs.declared.side.Side.{Side}
@@ -19,7 +19,7 @@ use Rattle.cert_check.specs.Sides.{left_number, right_number}
 use Rattle.cert_check.specs.declared.compare.Progress.{Progress}
 
 -- the instance of the side's member under the unifier
-abbrev pub due_of : Side → ℕ → ℕ → Member → Sided → Due
+abbrev pub due_of : Side → ℕ → ℕ → SelectedClause → Sided → Due
 due_of side own other m s = record {
   left = left_number side own other;
   right = right_number side own other;
@@ -30,7 +30,7 @@ due_of side own other m s = record {
 
 -- where P holds of what is due so far, Q holds of this with what is due of the side
 abbrev pub GivesSide : Saturation → Forest → List Binding → Side → ℕ → ℕ → (List Due → Type 0) → (List Due → Type 0) → Type 0
-GivesSide c f es side own other P Q = (s : Sided) → IsResolvedBy f es s → (m n : Member) → SelectsAt c (suc own) m → SelectsAt c (suc other) n → IsGeneralOn side s m.selected.atom n.selected.atom
+GivesSide c f es side own other P Q = (s : Sided) → IsResolvedBy f es s → (m n : SelectedClause) → SelectsAt c (suc own) m → SelectsAt c (suc other) n → IsGeneralOn side s m.selected.atom n.selected.atom
     → (here : List Due) × AreDueOfSide (due_of side own other m s) (of_side s side) m.selected.atom here × ((ds : List Due) → P ds → Q (ds ++ here))
 
 -- where P holds of what is due so far, Q holds of this with what is due of the pair
@@ -39,7 +39,7 @@ GivesPair c left right P Q = (here : List Due) × AreDueOfPair c left right here
 
 -- where the members have opposite signs and the unifier
 abbrev pub GivesMeeting : Saturation → Forest → List Binding → ℕ → ℕ → (List Due → Type 0) → (List Due → Type 0) → Type 0
-GivesMeeting c f es i j P Q = (s : Sided) → IsResolvedBy f es s → (m n : Member) → SelectsAt c (suc i) m → SelectsAt c (suc j) n → m.selected.positive ≢ n.selected.positive → IsMostGeneral s m.selected.atom n.selected.atom
+GivesMeeting c f es i j P Q = (s : Sided) → IsResolvedBy f es s → (m n : SelectedClause) → SelectsAt c (suc i) m → SelectsAt c (suc j) n → m.selected.positive ≢ n.selected.positive → IsMostGeneral s m.selected.atom n.selected.atom
     → GivesPair c (suc i) (suc j) P Q
 
 -- with what is due of the pairs whose left place is i or a later one, ds is what is due of all

@@ -1,7 +1,7 @@
 -- Covers that the origins of the members that they name tell.
 use Rattle.std.specs.Prelude.{◌≡◌, ℕ, suc, ◌+◌, ◌≤◌, List, [], length, Some, slice_get}
 use Rattle.inst_logic.specs.Substitution.{tree_vars}
-use Rattle.inst_calculus.specs.Models.{Member}
+use Rattle.inst_calculus.specs.Models.{SelectedClause}
 use Rattle.cert_format.specs.Validity.{IsProperPair, SelectsAt}
 use Rattle.cert_values.specs.declared.certificate.Cover.{Cover}
 use Rattle.cert_values.specs.declared.certificate.Covered.{Covered}
@@ -32,7 +32,7 @@ pub record IsMadeAt (c : Saturation) (vs : List Cover) (due : DueSide) (place : 
 
 -- the selected atom of member n has no variables
 abbrev pub HasGroundAtom : Saturation → ℕ → Type 0
-HasGroundAtom c n = (m : Member) → SelectsAt (saturation_of c) n m → tree_vars m.selected.atom ≡ []
+HasGroundAtom c n = (m : SelectedClause) → SelectsAt (saturation_of c) n m → tree_vars m.selected.atom ≡ []
 
 -- so many covers from the place on are told, and no other is due of members i and j
 pub data AreMade (c : Saturation) (vs : List Cover) (i j place count : ℕ) : Type 0 where

@@ -5,7 +5,7 @@ use Rattle.inst_logic.specs.Signed.{IsTautology}
 use Rattle.inst_logic.specs.Clauses.{TreeClause, Subsumes, canonical_form, instance}
 use Rattle.inst_logic.specs.Unifiers.{Sided}
 use Rattle.inst_calculus.specs.Axioms.{with_axioms}
-use Rattle.inst_calculus.specs.Models.{Member as Selected}
+use Rattle.inst_calculus.specs.Models.{SelectedClause}
 use Rattle.inst_logic.specs.Derivations.{at_number}
 use Rattle.cert_format.specs.TermLists.{HoldsBy, IsPartBy, Justifies}
 use Rattle.cert_format.specs.Validity.{SelectsAt}
@@ -45,18 +45,18 @@ pub record NamesInstance (f g : Forest) (es : List Binding) (x : Side) (ms : Lis
 pub record NamesSide (old new : Saturation) (es : List Binding) (x : Side) (n : ℕ) (d : Named) : Type 0 where
   pub clause : IsWholeClause new.base.bank d.clause
   pub by : IsWholeBy new.base.bank d.by
-  pub names : (s : Sided) → IsResolvedBy old.base.bank es s → (m : Selected) → SelectsAt (saturation_of old) n m
+  pub names : (s : Sided) → IsResolvedBy old.base.bank es s → (m : SelectedClause) → SelectsAt (saturation_of old) n m
       → (clause_at new.base.bank d.clause ≡ canonical_form (instance (of_side s x) m.clause)) × HoldsBy (saturation_of old).base.members m.clause (clause_at new.base.bank d.clause) (by_of new.base.bank d.by)
 
--- what is named shows the input or axiom
-pub record ShowsInput (old new : Saturation) (k : ℕ) (by : By) : Type 0 where
+-- what is named justifies the input or axiom
+pub record JustifiesInput (old new : Saturation) (k : ℕ) (by : By) : Type 0 where
   pub whole : IsWholeBy new.base.bank by
-  pub shows : (d : TreeClause) → at_number (with_axioms (saturation_of old).base.inputs) k ≡ Some d → Justifies (saturation_of old).base.members d (by_of new.base.bank by)
+  pub justified : (d : TreeClause) → at_number (with_axioms (saturation_of old).base.inputs) k ≡ Some d → Justifies (saturation_of old).base.members d (by_of new.base.bank by)
 
--- what is named shows the clause; f is the bank before, g after
+-- what is named justifies the clause; f is the bank before, g after
 pub record IsShownBy (f g : Forest) (ms : List Member) (c : List (Signed ℕ)) (by : By) : Type 0 where
   pub whole : IsWholeBy g by
-  pub shows : Justifies (map (entry_of f) ms) (clause_at f c) (by_of g by)
+  pub justified : Justifies (map (entry_of f) ms) (clause_at f c) (by_of g by)
   pub met : IsTautology (clause_at f c) ⊎ Any (λ m. Subsumes (clause_at f m.clause) (clause_at f c)) ms
 
 -- nothing can show it

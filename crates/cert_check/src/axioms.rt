@@ -8,7 +8,7 @@ use std::alloc::Global;
 use term_bank::{Bank, IdClauseList};
 
 // The clauses with the id of each atom in its place.
-pub fn clauses_by_id(
+pub fn intern_clauses(
     alloc: Global,
     bank: &mut Bank,
     clauses: &ClauseList,

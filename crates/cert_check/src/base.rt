@@ -8,7 +8,7 @@ ghost use Rattle.cert_check.specs.Firsts.{IsFirstWrongOf};
 ghost use Rattle.cert_values.specs.Values.{base_of};
 ghost use Rattle.cert_values.specs.Wholes.{IsWholeBase, KeepsBase};
 
-use crate::axioms::clauses_by_id;
+use crate::axioms::intern_clauses;
 use crate::difference::difference;
 use crate::error::CheckError;
 use crate::origin::input_gives;
@@ -30,7 +30,7 @@ pub fn wrong_axiom(alloc: Global, base: &mut Base) -> Result<Option<usize>, Memo
 {
     let symbols = symbols_in(alloc, &base.bank, &base.inputs)?;
     let axioms = axioms_from(alloc, &symbols)?;
-    let ids = clauses_by_id(alloc, &mut base.bank, &axioms)?;
+    let ids = intern_clauses(alloc, &mut base.bank, &axioms)?;
     Ok(difference(&base.bank, &base.axioms, &ids))
 }
 

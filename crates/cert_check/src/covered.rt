@@ -79,7 +79,7 @@ impl CheckedCovered {
     }
 }
 
-// Finds what shows the inputs and axioms, and then what covers what is due.
+// Finds what justifies the inputs and axioms, and then what covers what is due.
 fn name_with(alloc: Global, cert: &mut Covered, lookup: &Lookup) -> Result<(), CheckError>
     requires whole { IsWholeCovered cert.old }
     requires ready { IsReady cert.old.cert lookup.now }
@@ -98,7 +98,7 @@ fn name_with(alloc: Global, cert: &mut Covered, lookup: &Lookup) -> Result<(), C
     Ok(())
 }
 
-// Finds what shows the inputs and what covers what is due, with one index for both.
+// Finds what justifies the inputs and what covers what is due, with one index for both.
 fn name_selection(alloc: Global, cert: &mut Covered) -> Result<(), CheckError>
     requires whole { IsWholeCovered cert.old }
     requires base { IsValidBase (base_of cert.old.cert.base) }

@@ -12,20 +12,20 @@ ghost use Rattle.cert_check.specs.DueSteps.{GrowsShown};
 ghost use Rattle.cert_check.specs.Firsts.{IsFirstWrongOf};
 ghost use Rattle.cert_check.specs.Grounds.{AreCanonicalMembers};
 ghost use Rattle.cert_index.specs.Lookups.{IsLookup, IsReady};
-ghost use Rattle.cert_check.specs.Names.{IsShownBy, IsUnshown, ShowsInput};
+ghost use Rattle.cert_check.specs.Names.{IsShownBy, IsUnshown, JustifiesInput};
 
 use crate::inputs::{sources, stated_count, subsuming_place_from};
 use crate::naming::part_of;
 use crate::origin::clause_by_number;
 use cert_index::Lookup;
-use cert_names::shows;
+use cert_names::justifies;
 use cert_values::{By, ByList, Covered, Member, Saturation};
 use clause_form::long_tautology;
 use inst_logic::Memory;
 use std::alloc::Global;
 use term_bank::{Bank, IdClause};
 
-// What shows the clause. The member at the place is tried before the others, unless one is the clause.
+// What justifies the clause. The member at the place is tried before the others, unless one is the clause.
 fn find_shown(
     alloc: Global,
     bank: &mut Bank,
@@ -60,7 +60,7 @@ fn find_shown(
     }
 }
 
-// What shows clause `k` of the inputs and then the axioms, counted from 1.
+// What justifies clause `k` of the inputs and then the axioms, counted from 1.
 fn shown_input(
     alloc: Global,
     cert: &mut Saturation,
@@ -71,7 +71,7 @@ fn shown_input(
     requires ready { IsReady cert.old lookup.now }
     ensures kept { KeepsSaturation cert.old cert.new }
     ensures whole { OnOk result (IsWholeSaturation cert.new) }
-    ensures some { IfOk result (λ o. IfSome o (ShowsInput cert.old cert.new k)) }
+    ensures some { IfOk result (λ o. IfSome o (JustifiesInput cert.old cert.new k)) }
     ensures right { IfOk result (λ o. IfSome o (λ _. IsRightInput (saturation_of cert.old) k)) }
     ensures none { IfOk result (λ o. IfNone o (at_number (with_axioms (saturation_of cert.old).base.inputs) k ≢ None → ¬ (IsRightInput (saturation_of cert.old) k))) }
 {
@@ -89,7 +89,7 @@ fn shown_input(
     }
 }
 
-// Adds what shows each input and axiom, up to the first that nothing shows, whose number is the answer.
+// Adds what justifies each input and axiom, up to the first that nothing justifies, whose number is the answer.
 pub fn show_inputs(
     alloc: Global,
     cert: &mut Covered,
@@ -122,7 +122,7 @@ fn is_past(shown: &ByList, k: usize) -> bool
     shown.len() < k
 }
 
-// Whether what is named for clause `k` of the inputs and then the axioms, counted from 1, shows it, or neither is there.
+// Whether what is named for clause `k` of the inputs and then the axioms, counted from 1, justifies it, or neither is there.
 fn is_shown(alloc: Global, cert: &mut Covered, k: usize) -> Result<bool, Memory>
     requires comparable { IsComparable cert.old }
     requires number { 0 < k }
@@ -135,7 +135,7 @@ fn is_shown(alloc: Global, cert: &mut Covered, k: usize) -> Result<bool, Memory>
         None => Ok(is_past(&cert.shown, k)),
         Some(c) => match cert.shown.get(k - 1) {
             None => Ok(false),
-            Some(by) => shows(alloc, &mut base.bank, &base.members, c, by),
+            Some(by) => justifies(alloc, &mut base.bank, &base.members, c, by),
         },
     }
 }

@@ -23,7 +23,7 @@ use Rattle.inst_logic.proofs.Numbers.{number_is}
 use Rattle.inst_logic.proofs.ShownLaws.{at_number_contains}
 use Rattle.inst_calculus.specs.Axioms.{equality_axioms, with_axioms}
 use Rattle.inst_calculus.specs.Entries.{Entry}
-use Rattle.inst_calculus.specs.Models.{Member}
+use Rattle.inst_calculus.specs.Models.{SelectedClause}
 use Rattle.inst_calculus.proofs.Membership.{◌∈◌, contains_in, in_all, all_in, passes, all_pass, in_either, equal_in}
 use Rattle.inst_logic.proofs.Membership.{get_or_in}
 use Rattle.inst_calculus.proofs.Distinct.{IsDistinct, distinct_is_distinct, place, from_distinct}
@@ -214,7 +214,7 @@ module _ (f : ℕ) (c : Covered) (named : IsNamed c) (p : IsPrintable f (saturat
               part_terms_printable x.clause d ts (member_over j x here) (input_printed d (contains_in d (with_axioms base.inputs) (at_number_contains (with_axioms base.inputs) (suc k) d e))) q
 
   -- the selected literal of a member, and its clause
-  selected_over : (n : ℕ) (m : Member) → SelectsAt c.saturation n m → IsPrintedClause m.clause × IsAtomOver IsPrintedPredicate IsPrintedFunction m.selected.atom
+  selected_over : (n : ℕ) (m : SelectedClause) → SelectsAt c.saturation n m → IsPrintedClause m.clause × IsAtomOver IsPrintedPredicate IsPrintedFunction m.selected.atom
   selected_over n m h =
       let over = member_over n h.entry h.entry_at in (
         transport IsPrintedClause (sym h.clause) over,

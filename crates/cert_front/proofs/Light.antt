@@ -12,7 +12,7 @@ use Rattle.inst_logic.specs.Derivations.{at_number}
 use Rattle.inst_logic.specs.Measure.{tree_weight, trees_weight, function_count}
 use Rattle.inst_logic.specs.Printing.{is_lower_word, escaped_all, name_text, tree_text, arguments_text, more_text, sides_text, equality_sign, sign_text, atom_text, signed_text, literal_text, joined, clause_text}
 use Rattle.inst_calculus.specs.Entries.{Entry}
-use Rattle.inst_calculus.specs.Models.{Member}
+use Rattle.inst_calculus.specs.Models.{SelectedClause}
 use Rattle.cert_format.specs.Certificate.{Saturation, Certificate, first_refutation, refutation, saturation, covered, with_selected, selected_at, selected_members}
 use Rattle.cert_format.specs.Lines.{clause_line, selected_line, shown_line, cover_line, origin_text, end_line, format_line}
 use Rattle.cert_format.specs.Text.{numbered_lines, paired_lines, input_lines, axiom_lines, head_lines, certificate_text}
@@ -102,10 +102,10 @@ clause_within : (label : List ℕ) (n : ℕ) (role : List ℕ) (c : TreeClause) 
 clause_within label n role c note = simp length-append (omega arith)
 
 module _ (bound : ℕ) where
-  abbrev IsBelow : Member → Type 0
+  abbrev IsBelow : SelectedClause → Type 0
   IsBelow m = tree_weight m.selected.atom < bound
 
-  with_light : (c : TreeClause) (o : Option (Signed Tree)) (ms : List Member) → ((l : Signed Tree) → o ≡ Some l → tree_weight l.atom < bound) → All IsBelow ms → All IsBelow (with_selected c o ms)
+  with_light : (c : TreeClause) (o : Option (Signed Tree)) (ms : List SelectedClause) → ((l : Signed Tree) → o ≡ Some l → tree_weight l.atom < bound) → All IsBelow ms → All IsBelow (with_selected c o ms)
   with_light c None ms h all = all
   with_light c (Some l) ms h all = All-cons IsBelow (record { clause = c; selected = l }) ms (h l refl) all
 

@@ -1,6 +1,6 @@
 -- Certificates of each kind, by their values over a bank.
 use Rattle.std.specs.Prelude.{List, []}
-use Rattle.inst_calculus.specs.Models.{Member}
+use Rattle.inst_calculus.specs.Models.{SelectedClause}
 use Rattle.cert_format.specs.Certificate.{Certificate, first_refutation, refutation, saturation, covered, selected_members}
 use Rattle.cert_values.specs.declared.certificate.FirstRefutation.{FirstRefutation}
 use Rattle.cert_values.specs.declared.certificate.Refutation.{Refutation}
@@ -25,7 +25,7 @@ abbrev pub uncovered_value : Covered → Certificate
 uncovered_value c = saturation (covered_of c).saturation
 
 -- the members of a saturation with their selected literals
-abbrev pub selected_of : Certificate → List Member
+abbrev pub selected_of : Certificate → List SelectedClause
 selected_of (first_refutation r) = []
 selected_of (refutation r) = []
 selected_of (saturation s) = selected_members s

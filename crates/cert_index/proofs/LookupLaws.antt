@@ -17,7 +17,7 @@ use Rattle.cert_values.specs.Wholes.{IsWholeClause, IsWholeSaturation, KeepsSatu
 use Rattle.inst_logic.specs.Derivations.{at_number}
 use Rattle.inst_logic.specs.Tree.{Tree}
 use Rattle.inst_calculus.specs.Entries.{Entry}
-use Rattle.inst_calculus.specs.Models.{Member as Selected}
+use Rattle.inst_calculus.specs.Models.{SelectedClause}
 use Rattle.cert_format.proofs.Numbers.{slice_get_of_map}
 use Rattle.cert_format.proofs.SelectedMembers.{selected_once}
 use Rattle.clause_form.specs.Placements.{literal_at}
@@ -79,7 +79,7 @@ are_clauses ms place found there = record {
 module _ (c : Saturation) (k : ℕ) (h : Head) (p : Fingerprint) (head : IsHeadOf c k h) (print : IsFingerprintOf c k p) where
   one_literal : literal_tree c.base.bank print.literal ≡ literal_tree c.base.bank head.literal
   one_literal =
-      sym print.is.literal ∙ ap (λ (m : Selected). m.selected) (selected_once (saturation_of c).base.members (saturation_of c).places (suc k) print.is.member head.is.member print.is.is head.is.is) ∙ head.is.literal
+      sym print.is.literal ∙ ap (λ (m : SelectedClause). m.selected) (selected_once (saturation_of c).base.members (saturation_of c).places (suc k) print.is.member head.is.member print.is.is head.is.is) ∙ head.is.literal
 
   marked_there : (m : Member) (q : ℕ) → slice_get (clause_at c.base.bank m.clause) q ≡ Some head.is.member.selected → HasMarked c.base.bank m.clause h p
   marked_there m q at =

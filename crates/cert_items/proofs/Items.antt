@@ -15,7 +15,7 @@ use Rattle.cert_format.proofs.ClauseForms.{text_of_forms}
 use Rattle.cert_format.proofs.Formats.{first_two, test_forms}
 use Rattle.cert_items.specs.declared.group.Group.{Group}
 use Rattle.cert_items.specs.declared.group.Group.TheVariants as groups
-use Rattle.cert_items.specs.declared.shape.Shape.{Shape}
+use Rattle.cert_items.specs.declared.shape.TextShape.{TextShape}
 use Rattle.cert_items.specs.Items.{group_of, letter_of, role_of, head_text, IsNoteAt, NoLastNote, IsItem, NoItem}
 
 -- ---- heads
@@ -88,24 +88,24 @@ clause_once c d x y p q e =
     (same, behind_front (44 ∷ []) x y (behind_front (clause_text c) _ _ (e ∙ ap (λ (i : TreeClause). clause_text i ++ 44 ∷ y) (sym same))))
 
 -- no head, no clause behind the head, and no note behind the clause
-pub no_item_head : (s : Shape) (bytes : List ℕ) → ((g : Group) (n : ℕ) (rest : List ℕ) → n < 2 ^ 64 → bytes ≢ head_text g n rest) → NoItem s bytes
+pub no_item_head : (s : TextShape) (bytes : List ℕ) → ((g : Group) (n : ℕ) (rest : List ℕ) → n < 2 ^ 64 → bytes ≢ head_text g n rest) → NoItem s bytes
 no_item_head s bytes bad n c note rest i e = bad (group_of note) n (tail n c note rest) (below n i.number) (e ∙ line_head n c note rest)
 
-pub no_item_clause : (s : Shape) (g : Group) (n : ℕ) (bytes after : List ℕ) → bytes ≡ head_text g n after → n < 2 ^ 64 → ((c : TreeClause) (rest : List ℕ) → clause_is_printable c ≡ true → after ≢ clause_text c ++ 44 ∷ rest) → NoItem s bytes
+pub no_item_clause : (s : TextShape) (g : Group) (n : ℕ) (bytes after : List ℕ) → bytes ≡ head_text g n after → n < 2 ^ 64 → ((c : TreeClause) (rest : List ℕ) → clause_is_printable c ≡ true → after ≢ clause_text c ++ 44 ∷ rest) → NoItem s bytes
 no_item_clause s g n bytes after is small bad k d note rest i e =
     let a = one_head g (group_of note) n k after (tail k d note rest) small (below k i.number) (sym is ∙ e ∙ line_head k d note rest) in
     bad d (note_text k note (41 ∷ 46 ∷ 10 ∷ rest)) i.clause a.2
 
-pub no_item_note : (s : Shape) (g : Group) (n : ℕ) (c : TreeClause) (bytes after behind : List ℕ) → bytes ≡ head_text g n after → n < 2 ^ 64 → after ≡ clause_text c ++ 44 ∷ behind → clause_is_printable c ≡ true → NoLastNote s g n behind → NoItem s bytes
+pub no_item_note : (s : TextShape) (g : Group) (n : ℕ) (c : TreeClause) (bytes after behind : List ℕ) → bytes ≡ head_text g n after → n < 2 ^ 64 → after ≡ clause_text c ++ 44 ∷ behind → clause_is_printable c ≡ true → NoLastNote s g n behind → NoItem s bytes
 no_item_note s g n c bytes after behind is small at p bad k d note rest i e =
     let a = one_head g (group_of note) n k after (tail k d note rest) small (below k i.number) (sym is ∙ e ∙ line_head k d note rest) in
     let b = clause_once c d behind (note_text k note (41 ∷ 46 ∷ 10 ∷ rest)) p i.clause (sym at ∙ a.2) in
     bad note rest (record { printable = i.printable; form = i.form; group_is = sym a.0 }) (b.1 ∙ ap (λ (j : ℕ). note_text j note (41 ∷ 46 ∷ 10 ∷ rest)) (sym a.1))
 
 -- the parts make the line
-pub whole_line : (s : Shape) (g : Group) (n : ℕ) (c : TreeClause) (note : Note) (bytes after behind rest : List ℕ) → bytes ≡ head_text g n after → after ≡ clause_text c ++ 44 ∷ behind → IsNoteAt s g n note behind (41 ∷ 46 ∷ 10 ∷ rest) → bytes ≡ line (item n c note) rest
+pub whole_line : (s : TextShape) (g : Group) (n : ℕ) (c : TreeClause) (note : Note) (bytes after behind rest : List ℕ) → bytes ≡ head_text g n after → after ≡ clause_text c ++ 44 ∷ behind → IsNoteAt s g n note behind (41 ∷ 46 ∷ 10 ∷ rest) → bytes ≡ line (item n c note) rest
 whole_line s g n c note bytes after behind rest is at i =
     is ∙ ap (head_text g n) (at ∙ ap (λ (xs : List ℕ). clause_text c ++ 44 ∷ xs) i.1) ∙ ap (λ (h : Group). head_text h n (tail n c note rest)) (sym i.0.group_is) ∙ sym (line_head n c note rest)
 
-pub whole_item : (s : Shape) (g : Group) (n : ℕ) (c : TreeClause) (note : Note) (behind rest : List ℕ) → n < 2 ^ 64 → clause_is_printable c ≡ true → IsNoteAt s g n note behind rest → IsItem s n c note
+pub whole_item : (s : TextShape) (g : Group) (n : ℕ) (c : TreeClause) (note : Note) (behind rest : List ℕ) → n < 2 ^ 64 → clause_is_printable c ≡ true → IsNoteAt s g n note behind rest → IsItem s n c note
 whole_item s g n c note behind rest small p i = record { number = small_number n small; clause = p; printable = i.0.printable; form = i.0.form }

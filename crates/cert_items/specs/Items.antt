@@ -11,7 +11,7 @@ use Rattle.cert_items.specs.declared.group.Group.{Group}
 use Rattle.cert_items.specs.declared.group.Group.TheVariants as groups
 use Rattle.cert_items.specs.declared.note.Note as read
 use Rattle.cert_items.specs.declared.note.Note.TheVariants as notes
-use Rattle.cert_items.specs.declared.shape.Shape.{Shape}
+use Rattle.cert_items.specs.declared.shape.TextShape.{TextShape}
 use Rattle.inst_logic.specs.Codes as byte
 
 -- ---- groups
@@ -89,40 +89,40 @@ IsWholeNote f (notes.InputBy by) = IsWholeBy f by
 IsWholeNote f (notes.SideBy left right side by) = IsWholeBy f by
 
 -- the shape of a text under this header
-abbrev pub shape_of : Header → Shape
+abbrev pub shape_of : Header → TextShape
 shape_of h = record { refutation = h.refutation; format = h.format }
 
 -- texts of the shape have the note
-abbrev pub HasForm : Shape → Note → Type 0
+abbrev pub HasForm : TextShape → Note → Type 0
 HasForm shape note = (h : Header) → shape_of h ≡ shape → IsTrue (fits h note)
 
 -- a printable note of the shape and the group
-pub record IsNote (shape : Shape) (group : Group) (note : Note) : Type 0 where
+pub record IsNote (shape : TextShape) (group : Group) (note : Note) : Type 0 where
   pub printable : IsTrue (note_is_printable note)
   pub form : HasForm shape note
   pub group_is : group_of note ≡ group
 
 -- the note of the item with this number is at the front of the text
-abbrev pub IsNoteAt : Shape → Group → ℕ → Note → List ℕ → List ℕ → Type 0
+abbrev pub IsNoteAt : TextShape → Group → ℕ → Note → List ℕ → List ℕ → Type 0
 IsNoteAt shape group n note bytes rest = IsNote shape group note × (bytes ≡ note_text n note rest)
 
 -- no note is at the front of the text
-abbrev pub NoNote : Shape → Group → ℕ → List ℕ → Type 0
+abbrev pub NoNote : TextShape → Group → ℕ → List ℕ → Type 0
 NoNote shape group n bytes = (note : Note) (rest : List ℕ) → IsNote shape group note → bytes ≢ note_text n note rest
 
 -- none with the end of its line behind it
-abbrev pub NoLastNote : Shape → Group → ℕ → List ℕ → Type 0
+abbrev pub NoLastNote : TextShape → Group → ℕ → List ℕ → Type 0
 NoLastNote shape group n bytes = (note : Note) (rest : List ℕ) → IsNote shape group note → bytes ≢ note_text n note (byte.closing_parenthesis ∷ byte.full_stop ∷ byte.line_feed ∷ rest)
 
 -- ---- items
 
 -- an item with this number, clause and note has a line in a text of the shape
-pub record IsItem (shape : Shape) (n : ℕ) (c : TreeClause) (note : Note) : Type 0 where
+pub record IsItem (shape : TextShape) (n : ℕ) (c : TreeClause) (note : Note) : Type 0 where
   pub number : IsTrue (is_number n)
   pub clause : IsTrue (clause_is_printable c)
   pub printable : IsTrue (note_is_printable note)
   pub form : HasForm shape note
 
 -- no item's line is at the front of the text
-abbrev pub NoItem : Shape → List ℕ → Type 0
+abbrev pub NoItem : TextShape → List ℕ → Type 0
 NoItem shape bytes = (n : ℕ) (c : TreeClause) (note : Note) (rest : List ℕ) → IsItem shape n c note → bytes ≢ line (item n c note) rest

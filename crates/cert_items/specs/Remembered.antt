@@ -6,9 +6,9 @@ use Rattle.clause_form.specs.Conclusions.{AreVariables}
 use Rattle.cert_items.specs.Known.{AreKnown}
 use Rattle.cert_items.specs.Spelled.{AreSpelled}
 use Rattle.cert_items.specs.declared.recent.Spelled.{Spelled}
-use Rattle.cert_items.specs.declared.text_bank.Known.{Known}
+use Rattle.cert_items.specs.declared.text_bank.NamedSymbol.{NamedSymbol}
 
-pub record IsRemembered (f : Forest) (names : List (Vec ℕ × Known)) (variables : List ℕ) (literals : List Spelled) : Type 0 where
+pub record IsRemembered (f : Forest) (names : List (Vec ℕ × NamedSymbol)) (variables : List ℕ) (literals : List Spelled) : Type 0 where
   pub names_are : AreKnown f names
   pub variables_are : AreVariables f (length variables) variables
   pub literals_are : AreSpelled f literals

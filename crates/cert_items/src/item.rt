@@ -10,7 +10,7 @@ use crate::group::{Group, head};
 use crate::item_reader::ItemReader;
 use crate::note::{Note, last_note};
 use crate::printable::printable_clause;
-use crate::shape::Shape;
+use crate::shape::TextShape;
 use inst_logic::Memory;
 use term_bank::IdClause;
 
@@ -28,7 +28,7 @@ pub struct Item<'a> {
 pub fn read_item<'a>(
     reader: &mut ItemReader,
     literals: &mut IdClause,
-    shape: Shape,
+    shape: TextShape,
     bytes: &'a [u8],
 ) -> Result<Option<Item<'a>>, Memory>
     requires { literals.old ≡ [] }

@@ -31,4 +31,4 @@ pub use group::Group;
 pub use item::{Item, read_item};
 pub use item_reader::ItemReader;
 pub use note::Note;
-pub use shape::Shape;
+pub use shape::TextShape;

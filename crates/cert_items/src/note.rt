@@ -13,7 +13,7 @@ use crate::mark::{mark, word};
 use crate::notes::{ground_member, sides, statement_name};
 use crate::origin::read_origin;
 use crate::place::origin_and_place;
-use crate::shape::Shape;
+use crate::shape::TextShape;
 use crate::symbol::name_of;
 use crate::term_list::number_and_terms;
 use cert_values::{By, GroundHintList, Origin};
@@ -44,9 +44,9 @@ pub enum Note {
 }
 
 fn input_note(alloc: Global, bytes: &[u8]) -> Result<Option<(Note, &[u8])>, Memory>
-    ensures some { (shape : Shape) (n : ℕ) (f : Forest) → IfOk result (λ r. IfSome r (λ p. IsNoteAt shape InInputs n (note_of f p.0) bytes.now p.1.now)) }
+    ensures some { (shape : TextShape) (n : ℕ) (f : Forest) → IfOk result (λ r. IfSome r (λ p. IsNoteAt shape InInputs n (note_of f p.0) bytes.now p.1.now)) }
     ensures whole { (f : Forest) → IfOk result (λ r. IfSome r (λ p. IsWholeNote f p.0)) }
-    ensures none { (shape : Shape) (n : ℕ) → IfOk result (λ r. IfNone r (NoNote shape InInputs n bytes.now)) }
+    ensures none { (shape : TextShape) (n : ℕ) → IfOk result (λ r. IfNone r (NoNote shape InInputs n bytes.now)) }
 {
     let Some((text, rest)) = statement_name(bytes) else {
         return Ok(None);
@@ -56,15 +56,19 @@ fn input_note(alloc: Global, bytes: &[u8]) -> Result<Option<(Note, &[u8])>, Memo
 }
 
 fn axiom_note(bytes: &[u8]) -> Option<(Note, &[u8])>
-    ensures some { (shape : Shape) (n : ℕ) (f : Forest) → IfSome result (λ p. IsNoteAt shape InAxioms n (note_of f p.0) bytes.now p.1.now) }
+    ensures some { (shape : TextShape) (n : ℕ) (f : Forest) → IfSome result (λ p. IsNoteAt shape InAxioms n (note_of f p.0) bytes.now p.1.now) }
     ensures whole { (f : Forest) → IfSome result (λ p. IsWholeNote f p.0) }
-    ensures none { (shape : Shape) (n : ℕ) → IfNone result (NoNote shape InAxioms n bytes.now) }
+    ensures none { (shape : TextShape) (n : ℕ) → IfNone result (NoNote shape InAxioms n bytes.now) }
 {
     let rest = word(bytes, b"equality")?;
     Some((Note::Equality, rest))
 }
 
-fn member_note(alloc: Global, shape: Shape, bytes: &[u8]) -> Result<Option<(Note, &[u8])>, Memory>
+fn member_note(
+    alloc: Global,
+    shape: TextShape,
+    bytes: &[u8],
+) -> Result<Option<(Note, &[u8])>, Memory>
     ensures some { (n : ℕ) (f : Forest) → IfOk result (λ r. IfSome r (λ p. IsNoteAt shape InMembers n (note_of f p.0) bytes.now p.1.now)) }
     ensures whole { (f : Forest) → IfOk result (λ r. IfSome r (λ p. IsWholeNote f p.0)) }
     ensures none { (n : ℕ) → IfOk result (λ r. IfNone r (NoNote shape InMembers n bytes.now)) }
@@ -83,7 +87,7 @@ fn member_note(alloc: Global, shape: Shape, bytes: &[u8]) -> Result<Option<(Note
 }
 
 // The note of a ground clause in the first format.
-fn first_ground(shape: Shape, n: usize, bytes: &[u8]) -> Option<(Note, &[u8])>
+fn first_ground(shape: TextShape, n: usize, bytes: &[u8]) -> Option<(Note, &[u8])>
     requires refutation { IsTrue shape.refutation }
     requires format { shape.format ≡ 1 }
     ensures some { (f : Forest) → IfSome result (λ p. IsNoteAt shape InGrounds n (note_of f p.0) bytes.now p.1.now) }
@@ -100,7 +104,7 @@ fn first_ground(shape: Shape, n: usize, bytes: &[u8]) -> Option<(Note, &[u8])>
 // The note of a ground clause that names its input and terms.
 fn ground_by<'a>(
     reader: &mut ItemReader,
-    shape: Shape,
+    shape: TextShape,
     bytes: &'a [u8],
 ) -> Result<Option<(Note, &'a [u8])>, Memory>
     requires refutation { IsTrue shape.refutation }
@@ -121,7 +125,7 @@ fn ground_by<'a>(
 
 fn ground_note<'a>(
     reader: &mut ItemReader,
-    shape: Shape,
+    shape: TextShape,
     n: usize,
     bytes: &'a [u8],
 ) -> Result<Option<(Note, &'a [u8])>, Memory>
@@ -142,7 +146,7 @@ fn ground_note<'a>(
 
 fn step_note<'a>(
     alloc: Global,
-    shape: Shape,
+    shape: TextShape,
     bytes: &'a [u8],
 ) -> Result<Option<(Note, &'a [u8])>, Memory>
     ensures some { (n : ℕ) (f : Forest) → IfOk result (λ r. IfSome r (λ p. IsNoteAt shape InSteps n (note_of f p.0) bytes.now p.1.now)) }
@@ -164,7 +168,7 @@ fn step_note<'a>(
 
 fn shown_note<'a>(
     reader: &mut ItemReader,
-    shape: Shape,
+    shape: TextShape,
     bytes: &'a [u8],
 ) -> Result<Option<(Note, &'a [u8])>, Memory>
     ensures some { (n : ℕ) → IfOk result (λ r. IfSome r (λ p. IsNoteAt shape InShown n (note_of reader.new p.0) bytes.now p.1.now)) }
@@ -183,7 +187,7 @@ fn shown_note<'a>(
 
 fn cover_note<'a>(
     reader: &mut ItemReader,
-    shape: Shape,
+    shape: TextShape,
     bytes: &'a [u8],
 ) -> Result<Option<(Note, &'a [u8])>, Memory>
     ensures some { (n : ℕ) → IfOk result (λ r. IfSome r (λ p. IsNoteAt shape InCovers n (note_of reader.new p.0) bytes.now p.1.now)) }
@@ -215,7 +219,7 @@ fn cover_note<'a>(
 // The note of the group at the front, and what follows it.
 fn read_note<'a>(
     reader: &mut ItemReader,
-    shape: Shape,
+    shape: TextShape,
     group: Group,
     n: usize,
     bytes: &'a [u8],
@@ -239,7 +243,7 @@ fn read_note<'a>(
 /// The note of the group at the front, and what follows the end of its line.
 pub fn last_note<'a>(
     reader: &mut ItemReader,
-    shape: Shape,
+    shape: TextShape,
     group: Group,
     n: usize,
     bytes: &'a [u8],

@@ -23,7 +23,7 @@ use term_bank::{Bank, IdClause, IdLiteral, TermId};
 
 // An application of the symbol of a name that was read, and the symbol's kind and arity.
 #[derive(Clone, Copy)]
-pub struct Known {
+pub struct NamedSymbol {
     kind: Kind,
     arity: usize,
     id: TermId,
@@ -34,7 +34,7 @@ pub struct Known {
 pub struct TextBank {
     alloc: Global,
     bank: Bank,
-    known: IndexMap<Vec<u8>, Known>,
+    known: IndexMap<Vec<u8>, NamedSymbol>,
     // The ids of the first variables, by their numbers, as far as these were read in this order.
     variables: Vec<TermId>,
     recent: Recent,
@@ -54,7 +54,7 @@ impl Model for TextBank {
 }
 
 // What is remembered of the name that is printed so.
-fn known_of(known: &IndexMap<Vec<u8>, Known>, text: &[u8]) -> Option<Known>
+fn known_of(known: &IndexMap<Vec<u8>, NamedSymbol>, text: &[u8]) -> Option<NamedSymbol>
     ensures { result ≡ remembered text.now known.now.entries }
 {
     known.get(text).copied()
@@ -62,10 +62,10 @@ fn known_of(known: &IndexMap<Vec<u8>, Known>, text: &[u8]) -> Option<Known>
 
 // Remembers the application for a name that is not remembered.
 fn note(
-    known: &mut IndexMap<Vec<u8>, Known>,
+    known: &mut IndexMap<Vec<u8>, NamedSymbol>,
     bank: &Bank,
     text: &[u8],
-    value: Known,
+    value: NamedSymbol,
 ) -> Result<(), Memory>
     requires new { remembered text.now known.old.entries ≡ None }
     requires value { IsKnown bank.now text.now value }
@@ -80,7 +80,7 @@ fn note(
 // The application of the symbol of this kind whose name is printed so, and is not remembered.
 fn apply_first(
     bank: &mut Bank,
-    known: &mut IndexMap<Vec<u8>, Known>,
+    known: &mut IndexMap<Vec<u8>, NamedSymbol>,
     kind: Kind,
     text: &[u8],
     args: &[TermId],
@@ -95,7 +95,7 @@ fn apply_first(
     ensures formed { AreFormed bank.old → ((n : List ℕ) → IsFormed (app (record { kind = kind; name = n; arity = length args.now }) (of_list (map (tree_at bank.old) args.now)))) → AreFormed bank.new }
 {
     let id = apply_named(*known.allocator(), bank, kind, text, args)?;
-    let value = Known {
+    let value = NamedSymbol {
         kind,
         arity: args.len(),
         id,
@@ -108,7 +108,7 @@ fn apply_first(
 fn apply_again(
     bank: &mut Bank,
     text: &[u8],
-    known: &Known,
+    known: &NamedSymbol,
     args: &[TermId],
 ) -> Result<TermId, Memory>
     requires known { IsKnown bank.old text.now known.now }
@@ -127,7 +127,7 @@ fn apply_again(
 // The application of the symbol of this kind whose name is printed so.
 fn symbol_application(
     bank: &mut Bank,
-    known: &mut IndexMap<Vec<u8>, Known>,
+    known: &mut IndexMap<Vec<u8>, NamedSymbol>,
     kind: Kind,
     text: &[u8],
     args: &[TermId],

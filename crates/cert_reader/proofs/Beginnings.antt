@@ -14,7 +14,7 @@ use Rattle.cert_format.proofs.Digits.{decimal_digits}
 use Rattle.cert_format.proofs.Formats.{small_format}
 use Rattle.cert_format.proofs.LineNotes.{behind_front}
 use Rattle.cert_format.proofs.Runs.{one_split}
-use Rattle.cert_items.specs.declared.shape.Shape.{Shape}
+use Rattle.cert_items.specs.declared.shape.TextShape.{TextShape}
 use Rattle.cert_reader.specs.Bodies.{header, refutation_in, saturation_in, HasRead, IsRefusedAt}
 use Rattle.cert_reader.specs.Reads.{format_line, IsOtherFormat, IsVersion, HasVersion, IsSyntaxAt}
 use Rattle.cert_reader.specs.Starts.{NoFormat, HasBegun}
@@ -79,21 +79,21 @@ other_format r n text x digits rest h is at o =
     }
 
 -- the digits of a format that is read
-pub known_begun : (s : Shape) (n text x digits rest : List ℕ) → is_text_name n ≡ true → is_known s.format ≡ true → text ≡ two_front s.refutation n x → x ≡ format_line digits rest → digits ≡ decimal s.format → HasBegun text s n rest
+pub known_begun : (s : TextShape) (n text x digits rest : List ℕ) → is_text_name n ≡ true → is_known s.format ≡ true → text ≡ two_front s.refutation n x → x ≡ format_line digits rest → digits ≡ decimal s.format → HasBegun text s n rest
 known_begun s n text x digits rest h k is at same = record { is = is ∙ ap (two_front s.refutation n) (at ∙ ap (λ (w : List ℕ). format_line w rest) same); name_is = h; known = k }
 
 -- of a text of the shape, where its form is known
-pub with_form : (text : List ℕ) (s : Shape) (r : Bool) (n x : List ℕ) → s.refutation ≡ r → HasBegun text s n x → HasBegun text (record { refutation = r; format = s.format }) n x
+pub with_form : (text : List ℕ) (s : TextShape) (r : Bool) (n x : List ℕ) → s.refutation ≡ r → HasBegun text s n x → HasBegun text (record { refutation = r; format = s.format }) n x
 with_form text s r n x e b = subst (λ (q : Bool). HasBegun text (record { refutation = q; format = s.format }) n x) e b
 
-pub no_other_format : (text : List ℕ) (s : Shape) (n x : List ℕ) → HasBegun text s n x → ¬ HasVersion text
+pub no_other_format : (text : List ℕ) (s : TextShape) (n x : List ℕ) → HasBegun text s n x → ¬ HasVersion text
 no_other_format text s n x b v =
     let e = version_third text s.refutation n (line (version s.format) x) b.name_is b.is v.0 v.1 in
     v.1.format.other s.format b.known (sym (one_word (decimal s.format) v.0 x v.1.rest (known_digits s.format b.known) v.1.format.digits e).0)
 
 -- ---- up to the items
 
-text_three : (text : List ℕ) (s : Shape) (n x : List ℕ) → HasBegun text s n x → text ≡ text_of_lines (status s.refutation n ∷ opening s.refutation n ∷ version s.format ∷ []) ++ x
+text_three : (text : List ℕ) (s : TextShape) (n x : List ℕ) → HasBegun text s n x → text ≡ text_of_lines (status s.refutation n ∷ opening s.refutation n ∷ version s.format ∷ []) ++ x
 text_three text s n x b =
     let r = s.refutation in
     b.is ∙ ap (two_front r n) (in_front (version s.format) [] x) ∙ ap (line (status r n)) (in_front (opening r n) (version s.format ∷ []) x) ∙ in_front (status r n) (opening r n ∷ version s.format ∷ []) x

@@ -15,7 +15,7 @@ use Rattle.cert_format.proofs.Exits.{item_line_once}
 use Rattle.cert_format.proofs.Formats.{next_of}
 use Rattle.cert_format.proofs.LineNotes.{line_more}
 use Rattle.cert_values.specs.Wholes.{IsWholeClause}
-use Rattle.cert_items.specs.declared.shape.Shape.{Shape}
+use Rattle.cert_items.specs.declared.shape.TextShape.{TextShape}
 use Rattle.cert_items.specs.Items.{shape_of, IsItem, IsWholeNote, NoItem, group_of, note_of, rank_of}
 use Rattle.cert_items.specs.declared.group.Group.{Group}
 use Rattle.cert_items.specs.declared.note.Note as read
@@ -42,9 +42,9 @@ by_shape h (input_by by) = refl
 by_shape h (side_by left right side by) = refl
 
 same_fits : (h k : Header) (note : Note) → shape_of h ≡ shape_of k → fits h note ≡ fits k note
-same_fits h k note e = by_shape h note ∙ ap (λ (s : Shape). fits (least s) note) e ∙ sym (by_shape k note)
+same_fits h k note e = by_shape h note ∙ ap (λ (s : TextShape). fits (least s) note) e ∙ sym (by_shape k note)
 
-exits_item : (s : Shape) (n : ℕ) (c : TreeClause) (note : Note) → IsItem s n c note → exits.IsItem (least s) n c note
+exits_item : (s : TextShape) (n : ℕ) (c : TreeClause) (note : Note) → IsItem s n c note → exits.IsItem (least s) n c note
 exits_item s n c note i = record { number = i.number; clause = i.clause; note_is = i.printable; form = form_in s note i.form }
 
 following_item : (h : Header) (is : List Item) (n : ℕ) (c : TreeClause) (note : Note) → may_follow h is n c note ≡ true → IsItem (shape_of h) n c note
@@ -55,8 +55,8 @@ following_item h is n c note m =
 
 -- ---- no item that may follow
 
-pub no_item_next : (s : Shape) (is : List Item) (bytes : List ℕ) → NoItem s bytes → NoNextItem s is bytes
-no_item_next s is bytes bad h e n c note rest m at = bad n c note rest (subst (λ (z : Shape). IsItem z n c note) e (following_item h is n c note m)) at
+pub no_item_next : (s : TextShape) (is : List Item) (bytes : List ℕ) → NoItem s bytes → NoNextItem s is bytes
+no_item_next s is bytes bad h e n c note rest m at = bad n c note rest (subst (λ (z : TextShape). IsItem z n c note) e (following_item h is n c note m)) at
 
 -- what a test of an item that may follow says
 record IsNextIn (is : List Item) (n : ℕ) (note : Note) : Type 0 where
@@ -82,17 +82,17 @@ note_in (item n c note) = note
 note_in _ = equality
 
 -- an item of this group, number and clause may follow those of the lists
-abbrev pub MayFollow : Shape → Groups → Group → ℕ → List (Signed ℕ) → Type 0
+abbrev pub MayFollow : TextShape → Groups → Group → ℕ → List (Signed ℕ) → Type 0
 MayFollow s g k n c = (rank_of g.last ≤ rank_of k) × (n ≡ suc (count_of k g)) × TakesTurn s k g c
 
-whole_base : (s : Shape) (f : Forest) (g : Groups) → AreGroups s f g → All (IsWholeClause f) (g.inputs ++ g.axioms)
+whole_base : (s : TextShape) (f : Forest) (g : Groups) → AreGroups s f g → All (IsWholeClause f) (g.inputs ++ g.axioms)
 whole_base s f g p = All-append (IsWholeClause f) g.inputs g.axioms p.inputs p.axioms
 
 -- the item that was read may not follow
-pub wrong_next : (s : Shape) (f : Forest) (g : Groups) (k : Group) (n : ℕ) (c : List (Signed ℕ)) (note : Note) (bytes rest : List ℕ) → AreGroups s f g → AreApart f → IsWholeClause f c → IsItem s n (clause_at f c) note → bytes ≡ line (item n (clause_at f c) note) rest
+pub wrong_next : (s : TextShape) (f : Forest) (g : Groups) (k : Group) (n : ℕ) (c : List (Signed ℕ)) (note : Note) (bytes rest : List ℕ) → AreGroups s f g → AreApart f → IsWholeClause f c → IsItem s n (clause_at f c) note → bytes ≡ line (item n (clause_at f c) note) rest
     → group_of note ≡ k → (MayFollow s g k n c → ⊥) → NoNextItem s (items_of s f g) bytes
 wrong_next s f g k n c note bytes rest p apart whole i at group_is bad h e m d other y follows is =
-    let j = subst (λ (z : Shape). IsItem z m d other) e (following_item h (items_of s f g) m d other follows) in
+    let j = subst (λ (z : TextShape). IsItem z m d other) e (following_item h (items_of s f g) m d other follows) in
     let o = item_line_once (least s) n m (clause_at f c) d note other rest y (exits_item s n (clause_at f c) note i) (exits_item s m d other j) (sym at ∙ is) in
     let same_n = ap number_in o.0 in
     let same_c : clause_at f c ≡ d = ap clause_in o.0 in
@@ -106,7 +106,7 @@ wrong_next s f g k n c note bytes rest p apart whole i at group_is bad h e m d o
 
 -- ---- one item that may follow
 
-follows : (s : Shape) (f : Forest) (g : Groups) (k : Group) (n : ℕ) (c : List (Signed ℕ)) (note : Note) → AreGroups s f g → IsItem s n (clause_at f c) note → group_of note ≡ k → MayFollow s g k n c → (h : Header) → shape_of h ≡ s → may_follow h (items_of s f g) n (clause_at f c) note ≡ true
+follows : (s : TextShape) (f : Forest) (g : Groups) (k : Group) (n : ℕ) (c : List (Signed ℕ)) (note : Note) → AreGroups s f g → IsItem s n (clause_at f c) note → group_of note ≡ k → MayFollow s g k n c → (h : Header) → shape_of h ≡ s → may_follow h (items_of s f g) n (clause_at f c) note ≡ true
 follows s f g k n c note p i group_is m h e =
     let is = items_of s f g in
     let d = clause_at f c in
@@ -120,7 +120,7 @@ low_rank : (g : Groups) (k : Group) (note : Note) → group_of note ≡ k → ra
 low_rank g k note group_is low = subst (λ (z : ℕ). rank_of g.last ≤ z) (sym (rank_group note ∙ ap rank_of group_is)) low
 
 -- the note's clause is the next one where it has to be
-shows_next : (s : Shape) (f : Forest) (g : Groups) (k : Group) (note : read.Note) (c : List (Signed ℕ)) → fits (header s [] []) (note_of f note) ≡ true → group_of (note_of f note) ≡ k → TakesTurn s k g c → ShowsNext note g c
+shows_next : (s : TextShape) (f : Forest) (g : Groups) (k : Group) (note : read.Note) (c : List (Signed ℕ)) → fits (header s [] []) (note_of f note) ≡ true → group_of (note_of f note) ≡ k → TakesTurn s k g c → ShowsNext note g c
 shows_next s f g k (notes.Named w) c fit e t = tt
 shows_next s f g k notes.Equality c fit e t = tt
 shows_next s f g k (notes.Member o) c fit e t = tt
@@ -131,7 +131,7 @@ shows_next s f g k (notes.Hinted hs) c fit e t = tt
 shows_next s f g k (notes.InputBy by) c fit e t = subst (λ (z : Group). TakesTurn s z g c) (sym e) t fit
 shows_next s f g k (notes.SideBy l r d by) c fit e t = tt
 
-module _ (s : Shape) (f h : Forest) (g : Groups) (k : Group) (n : ℕ) (note : read.Note) (c : List (Signed ℕ)) (grown : Extends f h) (formed : AreFormed h) (p : AreGroups s f g)
+module _ (s : TextShape) (f h : Forest) (g : Groups) (k : Group) (n : ℕ) (note : read.Note) (c : List (Signed ℕ)) (grown : Extends f h) (formed : AreFormed h) (p : AreGroups s f g)
     (i : IsItem s n (clause_at h c) (note_of h note)) (group_is : group_of (note_of h note) ≡ k) (m : MayFollow s g k n c) where
   abbrev fit : fits (header s [] []) (note_of h note) ≡ true
   fit = i.form (header s [] []) refl

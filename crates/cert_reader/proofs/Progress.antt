@@ -17,7 +17,7 @@ use Rattle.inst_logic.proofs.Numbers.{number_is}
 use Rattle.cert_format.proofs.GroupItems.{all_append}
 use Rattle.cert_format.proofs.ValueRuns.{name_yes}
 use Rattle.cert_items.specs.Items.{shape_of}
-use Rattle.cert_items.specs.declared.shape.Shape.{Shape}
+use Rattle.cert_items.specs.declared.shape.TextShape.{TextShape}
 use Rattle.cert_reader.specs.Bodies.{constant_lines, lines_up_to, is_good, HasRead, IsNextItem, NoNextItem, IsRefusedAt, EndsSo, EndsAt, ending_behind}
 use Rattle.cert_reader.specs.declared.body.Ending.{Ending}
 use Rattle.cert_reader.specs.declared.groups.Groups.{Groups}
@@ -57,7 +57,7 @@ read_more text h is lines x rest n c note r m at =
       few = few_push is n c note p.at (below n p.fits_number) r.few;
     }
 
-pub progress : (text : List ℕ) (h : Header) (s : Shape) (is js : List Item) (lines : ℕ) (x rest : List ℕ) → shape_of h ≡ s → HasRead text h is lines x → IsNextItem s is js x rest → HasRead text h js (lines + 1) rest
+pub progress : (text : List ℕ) (h : Header) (s : TextShape) (is js : List Item) (lines : ℕ) (x rest : List ℕ) → shape_of h ≡ s → HasRead text h is lines x → IsNextItem s is js x rest → HasRead text h js (lines + 1) rest
 progress text h z is js lines x rest e p s =
     subst (λ (ks : List Item). HasRead text h ks (lines + 1) rest) (sym s.one_more) (read_more text h is lines x rest s.number s.clause s.note p (s.follows h e) s.text_is)
 
@@ -70,7 +70,7 @@ refused_next text h is lines x p bad last =
     subst (IsRefusedAt text) n q
 
 -- the last line is no item
-no_item_at_end : (s : Shape) (is : List Item) (r : Bool) (n x y : List ℕ) → x ≡ line (closing r n) y → NoNextItem s is x
+no_item_at_end : (s : TextShape) (is : List Item) (r : Bool) (n x y : List ℕ) → x ≡ line (closing r n) y → NoNextItem s is x
 no_item_at_end s is r n x y at h e k c note rest m text = apart_by 99 (line (item k c note) rest) (line (closing r n) y) (sym text ∙ at) refl refl
 
 text_name : (text : List ℕ) (h : Header) (is : List Item) (lines : ℕ) (x : List ℕ) → HasRead text h is lines x → is_text_name h.name ≡ true
@@ -98,11 +98,11 @@ ended text h is lines x (b ∷ bs) p complete at =
 
 -- ---- the same for a reader, which knows the shape and the name
 
-closing_is : (h : Header) (s : Shape) (n : List ℕ) → shape_of h ≡ s → h.name ≡ n → closing h.refutation h.name ≡ closing s.refutation n
-closing_is h s n shape same = ap₂ closing (ap (λ (z : Shape). z.refutation) shape) same
+closing_is : (h : Header) (s : TextShape) (n : List ℕ) → shape_of h ≡ s → h.name ≡ n → closing h.refutation h.name ≡ closing s.refutation n
+closing_is h s n shape same = ap₂ closing (ap (λ (z : TextShape). z.refutation) shape) same
 
 -- at the last line
-pub ended_so : (text : List ℕ) (h : Header) (s : Shape) (n : List ℕ) (f : Forest) (g : Groups) (lines : ℕ) (x rest : List ℕ) (e : Ending) → shape_of h ≡ s → h.name ≡ n → AreGroups s f g → HasRead text h (items_of s f g) lines x → x ≡ line (closing s.refutation n) rest
+pub ended_so : (text : List ℕ) (h : Header) (s : TextShape) (n : List ℕ) (f : Forest) (g : Groups) (lines : ℕ) (x rest : List ℕ) (e : Ending) → shape_of h ≡ s → h.name ≡ n → AreGroups s f g → HasRead text h (items_of s f g) lines x → x ≡ line (closing s.refutation n) rest
     → EndsAt s g (lines + 1) rest e → EndsSo text h (items_of s f g) e
 ended_so text h s n f g lines x rest e shape same groups p at (inl q) =
     subst (EndsSo text h (items_of s f g)) (sym q.1) (ended text h (items_of s f g) lines x rest p (complete_is h s f g shape groups q.0) (at ∙ ap (λ (l : Line). line l rest) (sym (closing_is h s n shape same))))
@@ -110,9 +110,9 @@ ended_so text h s n f g lines x rest e shape same groups p at (inr q) =
     subst (EndsSo text h (items_of s f g)) (sym q.1)
     (refused_next text h (items_of s f g) lines x p (no_item_at_end (shape_of h) (items_of s f g) s.refutation n x rest at) (λ y c z. q.0 (from_complete h s f g shape groups c)))
 
-pub refused_so : (text : List ℕ) (h : Header) (s : Shape) (n : List ℕ) (is : List Item) (lines : ℕ) (x : List ℕ) → shape_of h ≡ s → h.name ≡ n → HasRead text h is lines x → NoNextItem s is x → ((y : List ℕ) → x ≢ line (closing s.refutation n) y) → IsRefusedAt text (lines + 1)
+pub refused_so : (text : List ℕ) (h : Header) (s : TextShape) (n : List ℕ) (is : List Item) (lines : ℕ) (x : List ℕ) → shape_of h ≡ s → h.name ≡ n → HasRead text h is lines x → NoNextItem s is x → ((y : List ℕ) → x ≢ line (closing s.refutation n) y) → IsRefusedAt text (lines + 1)
 refused_so text h s n is lines x shape same p bad last =
-    refused_next text h is lines x p (subst (λ (z : Shape). NoNextItem z is x) (sym shape) bad) (λ y c e. last y (e ∙ ap (λ (l : Line). line l y) (closing_is h s n shape same)))
+    refused_next text h is lines x p (subst (λ (z : TextShape). NoNextItem z is x) (sym shape) bad) (λ y c e. last y (e ∙ ap (λ (l : Line). line l y) (closing_is h s n shape same)))
 
 pub closing_longer : (r : Bool) (n bytes rest : List ℕ) → bytes ≡ line (closing r n) rest → length rest < length bytes
 closing_longer r n bytes rest at =

@@ -28,7 +28,7 @@ use Rattle.cert_items.specs.declared.group.Group.TheVariants as kinds
 use Rattle.cert_items.specs.declared.note.Note.{Note}
 use Rattle.cert_items.specs.declared.note.Note.TheVariants as notes
 use Rattle.cert_reader.specs.declared.groups.Groups.{Groups}
-use Rattle.cert_items.specs.declared.shape.Shape.{Shape}
+use Rattle.cert_items.specs.declared.shape.TextShape.{TextShape}
 use Rattle.cert_reader.specs.Bodies.{header}
 use Rattle.cert_reader.specs.Groups.{base_count, count_of, IsNextOf, pushed, members_by, items_of, HasForm, AreGroups}
 use Rattle.cert_format.proofs.ItemGroups.{IsGroup}
@@ -111,7 +111,7 @@ none_of_shown [] = refl
 none_of_shown (c ∷ cs) = refl
 
 -- a shape by its two parts
-abbrev pub shape_for : Bool → ℕ → Shape
+abbrev pub shape_for : Bool → ℕ → TextShape
 shape_for r v = record { refutation = r; format = v }
 
 pub member_group : (r : Bool) (v : ℕ) (es : List Entry) (ps : List ℕ) → IsGroup 2 (members_by (shape_for r v) es ps)
@@ -221,7 +221,7 @@ abbrev item_of : Forest → Note → List (Signed ℕ) → Item
 item_of f note c = record { clause = clause_at f c; note = note_of f note }
 
 -- the note stands in texts of the shape
-abbrev Fits : Shape → Forest → Note → Type 0
+abbrev Fits : TextShape → Forest → Note → Type 0
 Fits s f note = fits (header s [] []) (note_of f note) ≡ true
 
 -- where the note says what shows an input or axiom, the clause is that of the next one
@@ -450,7 +450,7 @@ pushed_groups r v f g (notes.SideBy left right side by) c p l fit next whole ter
 -- ---- a bank that has grown
 
 module _ (f h : Forest) (grown : Extends f h) where
-  pub grown_items : (s : Shape) (g : Groups) → AreGroups s f g → items_of s h g ≡ items_of s f g
+  pub grown_items : (s : TextShape) (g : Groups) → AreGroups s f g → items_of s h g ≡ items_of s f g
   grown_items s g p =
       let i = clauses_same f h grown g.inputs p.inputs in
       let a = clauses_same f h grown g.axioms p.axioms in
@@ -462,7 +462,7 @@ module _ (f h : Forest) (grown : Extends f h) where
       let v = covers_same f h grown g.covers p.covers in
       λ j. input_items (i j) g.names ++ (axiom_items (a j) ++ (members_by s (m j) g.places ++ ((ground_items (k j) ++ line_items (l j)) ++ (step_items (z j) ++ (shown_items (i j ++ a j) (b j) ++ cover_items (v j))))))
 
-  pub grown_groups : (s : Shape) (g : Groups) → AreFormed h → AreGroups s f g → AreGroups s h g
+  pub grown_groups : (s : TextShape) (g : Groups) → AreFormed h → AreGroups s f g → AreGroups s h g
   grown_groups s g formed p = record {
     bank = formed;
     inputs = clauses_grown f h grown g.inputs p.inputs;
@@ -484,7 +484,7 @@ module _ (f h : Forest) (grown : Extends f h) where
 abbrev no_groups : Groups
 no_groups = record { inputs = []; names = []; axioms = []; members = []; places = []; grounds = []; lines = []; steps = []; shown = []; covers = []; last = kinds.Input }
 
-pub empty_items : (s : Shape) (f : Forest) (g : Groups) → g ≡ no_groups → items_of s f g ≡ []
+pub empty_items : (s : TextShape) (f : Forest) (g : Groups) → g ≡ no_groups → items_of s f g ≡ []
 empty_items s f g e = ap (items_of s f) e ∙ no_items s.refutation
   where
     no_items : (r : Bool) → cond r (member_items []) (selected_items [] []) ++ [] ≡ []

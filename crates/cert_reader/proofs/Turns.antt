@@ -21,7 +21,7 @@ use Rattle.cert_values.specs.Wholes.{IsWholeClause}
 use Rattle.cert_items.specs.Items.{shape_of, group_of}
 use Rattle.cert_items.specs.declared.group.Group.{Group}
 use Rattle.cert_items.specs.declared.group.Group.TheVariants as kinds
-use Rattle.cert_items.specs.declared.shape.Shape.{Shape}
+use Rattle.cert_items.specs.declared.shape.TextShape.{TextShape}
 use Rattle.cert_reader.specs.declared.groups.Groups.{Groups}
 use Rattle.cert_reader.specs.Groups.{base_count, names_in, items_of, members_by, IsAllShown, IsNextOf, IsInTurn, TakesTurn, AreGroups}
 use Rattle.cert_reader.proofs.Pushes.{counts, member_group}
@@ -31,7 +31,7 @@ use Rattle.cert_reader.proofs.Pushes.{counts, member_group}
 both_empty : (is js : List Item) → base_clauses is ≡ [] → base_clauses js ≡ [] → base_clauses (is ++ js) ≡ []
 both_empty is js h k = base_append is js ∙ ap₂ (λ (xs ys : List TreeClause). xs ++ ys) h k
 
-pub base_is : (s : Shape) (f : Forest) (g : Groups) → AreGroups s f g → base_clauses (items_of s f g) ≡ map (clause_at f) (g.inputs ++ g.axioms)
+pub base_is : (s : TextShape) (f : Forest) (g : Groups) → AreGroups s f g → base_clauses (items_of s f g) ≡ map (clause_at f) (g.inputs ++ g.axioms)
 base_is s f g p =
     let as_inputs = input_items (map (clause_at f) g.inputs) g.names in
     let as_axioms = axiom_items (map (clause_at f) g.axioms) in
@@ -54,27 +54,27 @@ base_is s f g p =
 
 -- ---- how many
 
-base_length : (s : Shape) (f : Forest) (g : Groups) → AreGroups s f g → length (base_clauses (items_of s f g)) ≡ base_count g
+base_length : (s : TextShape) (f : Forest) (g : Groups) → AreGroups s f g → length (base_clauses (items_of s f g)) ≡ base_count g
 base_length s f g p = ap length (base_is s f g p) ∙ length-map (g.inputs ++ g.axioms) (clause_at f) ∙ length-append g.inputs g.axioms
 
-shown_count : (s : Shape) (f : Forest) (g : Groups) → AreGroups s f g → length (shown_clauses (items_of s f g)) ≡ length g.shown
+shown_count : (s : TextShape) (f : Forest) (g : Groups) → AreGroups s f g → length (shown_clauses (items_of s f g)) ≡ length g.shown
 shown_count s f g p = sym (count_shown (items_of s f g)) ∙ counts s.refutation s.format f g p kinds.Shown
 
-all_shown : (s : Shape) (f : Forest) (g : Groups) → AreGroups s f g → IsAllShown g → are_shown (items_of s f g) ≡ true
+all_shown : (s : TextShape) (f : Forest) (g : Groups) → AreGroups s f g → IsAllShown g → are_shown (items_of s f g) ≡ true
 all_shown s f g p h = equal_numbers (length (shown_clauses (items_of s f g))) (length (base_clauses (items_of s f g))) (shown_count s f g p ∙ sym h ∙ sym (base_length s f g p))
 
-from_shown : (s : Shape) (f : Forest) (g : Groups) → AreGroups s f g → are_shown (items_of s f g) ≡ true → IsAllShown g
+from_shown : (s : TextShape) (f : Forest) (g : Groups) → AreGroups s f g → are_shown (items_of s f g) ≡ true → IsAllShown g
 from_shown s f g p h = sym (base_length s f g p) ∙ sym (number_is (length (shown_clauses (items_of s f g))) (length (base_clauses (items_of s f g))) h) ∙ shown_count s f g p
 
 -- ---- the end
 
-names_same : (h : Header) (s : Shape) → shape_of h ≡ s → names_covers h ≡ names_in s
+names_same : (h : Header) (s : TextShape) → shape_of h ≡ s → names_covers h ≡ names_in s
 names_same h s e = ap names_in e
 
-pub complete_is : (h : Header) (s : Shape) (f : Forest) (g : Groups) → shape_of h ≡ s → AreGroups s f g → (names_in s ≡ true → IsAllShown g) → is_complete h (items_of s f g) ≡ true
+pub complete_is : (h : Header) (s : TextShape) (f : Forest) (g : Groups) → shape_of h ≡ s → AreGroups s f g → (names_in s ≡ true → IsAllShown g) → is_complete h (items_of s f g) ≡ true
 complete_is h s f g e p all = met (names_covers h) (are_shown (items_of s f g)) (λ n. all_shown s f g p (all (sym (names_same h s e) ∙ n)))
 
-pub from_complete : (h : Header) (s : Shape) (f : Forest) (g : Groups) → shape_of h ≡ s → AreGroups s f g → is_complete h (items_of s f g) ≡ true → names_in s ≡ true → IsAllShown g
+pub from_complete : (h : Header) (s : TextShape) (f : Forest) (g : Groups) → shape_of h ≡ s → AreGroups s f g → is_complete h (items_of s f g) ≡ true → names_in s ≡ true → IsAllShown g
 from_complete h s f g e p c n = from_shown s f g p (asked (names_covers h) (are_shown (items_of s f g)) (names_same h s e ∙ n) c)
 
 -- ---- the next clause
@@ -93,7 +93,7 @@ next_from f apart (d ∷ cs) (suc n) c h w t = next_from f apart cs n c (All-tai
 
 -- ---- what is in turn
 
-module _ (s : Shape) (f : Forest) (g : Groups) (p : AreGroups s f g) (c : List (Signed ℕ)) where
+module _ (s : TextShape) (f : Forest) (g : Groups) (p : AreGroups s f g) (c : List (Signed ℕ)) where
   turn_yes : (note : Note) (k : Group) → group_of note ≡ k → IsInTurn k g c → in_turn (items_of s f g) (clause_at f c) note ≡ true
   turn_yes (named w) k e t =
       let u : suc (base_count g) < 2 ^ 64 = subst (λ (j : Group). IsInTurn j g c) (sym e) t in

@@ -40,7 +40,7 @@ use Rattle.cert_values.specs.Wholes.{IsWholeBase}
 use Rattle.cert_items.specs.Items.{rank_of}
 use Rattle.cert_items.specs.declared.group.Group.{Group}
 use Rattle.cert_items.specs.declared.group.Group.TheVariants as kinds
-use Rattle.cert_items.specs.declared.shape.Shape.{Shape}
+use Rattle.cert_items.specs.declared.shape.TextShape.{TextShape}
 use Rattle.cert_reader.specs.declared.certificate.Certificate.TheVariants as forms
 use Rattle.cert_reader.specs.declared.groups.Groups.{Groups}
 use Rattle.cert_reader.specs.Bodies.{header, refutation_in, saturation_in, is_good, IsComplete}
@@ -152,7 +152,7 @@ mapped_length : {A B : Type 0} (f : A → B) (xs : List A) (n : ℕ) → length 
 mapped_length f xs n e h = let k = length-map xs f in omega arith
 
 -- the items of the shape are good under the header, and few
-record AreGood (s : Shape) (f : Forest) (g : Groups) (h : Header) : Type 0 where
+record AreGood (s : TextShape) (f : Forest) (g : Groups) (h : Header) : Type 0 where
   pub groups : AreGroups s f g
   pub good : list_all (is_good h) (items_of s f g) ≡ true
   pub few : (k : ℕ) → count k (items_of s f g) < 2 ^ 64
@@ -338,7 +338,7 @@ module _ (v : ℕ) (f : Forest) (g : Groups) where
 
 -- ---- the text is the certificate's
 
-good_of : (text : List ℕ) (s : Shape) (f : Forest) (g : Groups) (h : Header) → AreGroups s f g → IsComplete text h (items_of s f g) → AreGood s f g h
+good_of : (text : List ℕ) (s : TextShape) (f : Forest) (g : Groups) (h : Header) → AreGroups s f g → IsComplete text h (items_of s f g) → AreGood s f g h
 good_of text s f g h p c = record { groups = p; good = c.good; few = c.few }
 
 module _ (text : List ℕ) (v : ℕ) (f : Forest) (g : Groups) (name : List ℕ) (known : is_known v ≡ true) where

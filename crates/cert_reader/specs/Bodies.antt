@@ -8,21 +8,21 @@ use Rattle.cert_format.specs.LineTexts.{line, note_is_printable}
 use Rattle.cert_format.specs.Formats.{clause_is_printable, may_follow, text_of_lines, Leads}
 use Rattle.cert_format.specs.ValueLines.{item_lines, IsCertificateText}
 use Rattle.cert_items.specs.Items.{shape_of}
-use Rattle.cert_items.specs.declared.shape.Shape.{Shape}
+use Rattle.cert_items.specs.declared.shape.TextShape.{TextShape}
 use Rattle.cert_reader.specs.declared.groups.Groups.{Groups}
 use Rattle.cert_reader.specs.Groups.{names_in, IsAllShown}
 use Rattle.cert_reader.specs.declared.body.Ending.{Ending}
 use Rattle.cert_reader.specs.declared.body.Ending.TheVariants.{Complete, BadLine}
 
 -- the shape of a refutation's text in a format, and of a saturation's
-abbrev pub refutation_in : ℕ → Shape
+abbrev pub refutation_in : ℕ → TextShape
 refutation_in format = record { refutation = true; format = format }
 
-abbrev pub saturation_in : ℕ → Shape
+abbrev pub saturation_in : ℕ → TextShape
 saturation_in format = record { refutation = false; format = format }
 
 -- the header of a text of the shape
-abbrev pub header : Shape → List ℕ → List ℕ → Header
+abbrev pub header : TextShape → List ℕ → List ℕ → Header
 header shape name bot = record { refutation = shape.refutation; name = name; format = shape.format; bot = bot }
 
 -- a refutation has a line for its constant
@@ -47,7 +47,7 @@ pub record HasRead (text : List ℕ) (h : Header) (is : List Item) (lines : ℕ)
   pub few : (k : ℕ) → count k is < 2 ^ 64
 
 -- one more item, which may follow, is at the front of the text
-pub record IsNextItem (shape : Shape) (is js : List Item) (bytes rest : List ℕ) : Type 0 where
+pub record IsNextItem (shape : TextShape) (is js : List Item) (bytes rest : List ℕ) : Type 0 where
   pub number : ℕ
   pub clause : TreeClause
   pub note : Note
@@ -56,7 +56,7 @@ pub record IsNextItem (shape : Shape) (is js : List Item) (bytes rest : List ℕ
   pub text_is : bytes ≡ line (item number clause note) rest
 
 -- no item that may follow is at the front of the text
-abbrev pub NoNextItem : Shape → List Item → List ℕ → Type 0
+abbrev pub NoNextItem : TextShape → List Item → List ℕ → Type 0
 NoNextItem shape is bytes = (h : Header) → shape_of h ≡ shape → (n : ℕ) (c : TreeClause) (note : Note) (rest : List ℕ) → IsTrue (may_follow h is n c note) → bytes ≢ line (item n c note) rest
 
 -- the last line ends the text
@@ -83,9 +83,9 @@ ending_behind lines [] = Complete
 ending_behind lines (b ∷ bs) = BadLine (suc lines)
 
 -- nothing is left to be shown
-abbrev pub IsDone : Shape → Groups → Type 0
+abbrev pub IsDone : TextShape → Groups → Type 0
 IsDone shape g = IsTrue (names_in shape) → IsAllShown g
 
 -- how a text of the shape with these items ends at its last line, which has this number
-abbrev pub EndsAt : Shape → Groups → ℕ → List ℕ → Ending → Type 0
+abbrev pub EndsAt : TextShape → Groups → ℕ → List ℕ → Ending → Type 0
 EndsAt shape g line rest e = (IsDone shape g × (e ≡ ending_behind line rest)) ⊎ ((¬ IsDone shape g) × (e ≡ BadLine line))

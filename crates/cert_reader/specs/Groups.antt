@@ -14,7 +14,7 @@ use Rattle.cert_values.specs.declared.certificate.Covered.{Covered}
 use Rattle.cert_values.specs.Values.{entry_of, line_of, step_of, by_of, cover_of}
 use Rattle.cert_values.specs.Wholes.{IsWholeClause, IsWholeLine, IsWholeBy, IsWholeCover}
 use Rattle.cert_items.specs.Items.{rank_of}
-use Rattle.cert_items.specs.declared.shape.Shape.{Shape}
+use Rattle.cert_items.specs.declared.shape.TextShape.{TextShape}
 use Rattle.cert_items.specs.declared.group.Group.{Group}
 use Rattle.cert_items.specs.declared.group.Group.TheVariants as kinds
 use Rattle.cert_items.specs.declared.note.Note.{Note}
@@ -36,7 +36,7 @@ count_of kinds.Cover g = length g.covers
 -- ---- whose turn it is
 
 -- texts of the shape name what covers their clauses
-abbrev pub names_in : Shape → Bool
+abbrev pub names_in : TextShape → Bool
 names_in shape = not shape.refutation && nat_eq shape.format 3
 
 -- how many inputs and axioms
@@ -59,7 +59,7 @@ IsInTurn kinds.Step g c = ⊤
 IsInTurn kinds.Shown g c = IsNextOf g c
 IsInTurn kinds.Cover g c = IsAllShown g
 
-abbrev pub TakesTurn : Shape → Group → Groups → List (Signed ℕ) → Type 0
+abbrev pub TakesTurn : TextShape → Group → Groups → List (Signed ℕ) → Type 0
 TakesTurn shape k g c = IsTrue (names_in shape) → IsInTurn k g c
 
 -- ---- one more item
@@ -79,18 +79,18 @@ pushed (notes.SideBy left right side by) c g = record g { covers = g.covers ++ r
 -- ---- the items
 
 -- members have places in a saturation
-abbrev pub members_by : Shape → List Entry → List ℕ → List Item
+abbrev pub members_by : TextShape → List Entry → List ℕ → List Item
 members_by shape es ps = if shape.refutation then member_items es else selected_items es ps
 
 -- the items, in the order of a text of the shape
-abbrev pub items_of : Shape → Forest → Groups → List Item
+abbrev pub items_of : TextShape → Forest → Groups → List Item
 items_of shape f g = input_items (map (clause_at f) g.inputs) g.names ++ (axiom_items (map (clause_at f) g.axioms) ++ (members_by shape (map (entry_of f) g.members) g.places
     ++ ((ground_items (map (clause_at f) g.grounds) ++ line_items (map (line_of f) g.lines)) ++ (step_items (map (step_of f) g.steps)
     ++ (shown_items (map (clause_at f) g.inputs ++ map (clause_at f) g.axioms) (map (by_of f) g.shown) ++ cover_items (map (cover_of f) g.covers))))))
 
 -- What a text of the shape has and has not: a saturation has a place for each member, and neither ground clauses nor steps; a
 -- refutation has ground clauses as its format has them; and covers stand where they are named.
-pub record HasForm (shape : Shape) (g : Groups) : Type 0 where
+pub record HasForm (shape : TextShape) (g : Groups) : Type 0 where
   pub placed : shape.refutation ≡ false → length g.places ≡ length g.members
   pub grounds : (shape.refutation && nat_eq shape.format 1) ≡ false → g.grounds ≡ []
   pub lines : (shape.refutation && not (nat_eq shape.format 1)) ≡ false → g.lines ≡ []
@@ -99,7 +99,7 @@ pub record HasForm (shape : Shape) (g : Groups) : Type 0 where
   pub covers : names_in shape ≡ false → g.covers ≡ []
 
 -- the items have clauses and terms of the bank, and the last one is of that group
-pub record AreGroups (shape : Shape) (f : Forest) (g : Groups) : Type 0 where
+pub record AreGroups (shape : TextShape) (f : Forest) (g : Groups) : Type 0 where
   pub bank : AreFormed f
   pub inputs : All (IsWholeClause f) g.inputs
   pub named : length g.names ≡ length g.inputs

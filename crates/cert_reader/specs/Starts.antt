@@ -5,13 +5,13 @@ use Rattle.std.specs.Char.{is_ascii_digit}
 use Rattle.cert_format.specs.LineMachine.{status, opening, version}
 use Rattle.cert_format.specs.LineTexts.{line, is_text_name}
 use Rattle.cert_format.specs.Formats.{is_known}
-use Rattle.cert_items.specs.declared.shape.Shape.{Shape}
+use Rattle.cert_items.specs.declared.shape.TextShape.{TextShape}
 use Rattle.cert_reader.specs.Reads.{format_line, IsSyntaxAt, IsVersion}
 use Rattle.cert_reader.specs.declared.start.Start.{Start}
 use Rattle.cert_reader.specs.declared.start.Start.TheVariants.{Begun, Bad, Other}
 
 -- the first three lines, in a certificate's text of this shape under this name
-pub record HasBegun (text : List ℕ) (shape : Shape) (name rest : List ℕ) : Type 0 where
+pub record HasBegun (text : List ℕ) (shape : TextShape) (name rest : List ℕ) : Type 0 where
   pub is : text ≡ line (status shape.refutation name) (line (opening shape.refutation name) (line (version shape.format) rest))
   pub name_is : IsTrue (is_text_name name)
   pub known : IsTrue (is_known shape.format)

@@ -8,7 +8,7 @@ ghost use Rattle.cert_reader.specs.Groups.{AreGroups, items_of};
 use crate::groups::Groups;
 use crate::lines::closing;
 use crate::next::next_item;
-use cert_items::{ItemReader, Shape};
+use cert_items::{ItemReader, TextShape};
 use inst_logic::Memory;
 
 /// How a text ends.
@@ -33,7 +33,7 @@ fn behind_last(lines: usize, rest: &[u8]) -> Ending
 }
 
 // How a text of the shape with these items ends whose last line has this number, with this behind it.
-fn end_of(groups: &Groups, shape: Shape, line: usize, rest: &[u8]) -> Ending
+fn end_of(groups: &Groups, shape: TextShape, line: usize, rest: &[u8]) -> Ending
     requires counted { line + length rest.now < 2 ^ 63 }
     ensures { EndsAt shape groups.now line rest.now result }
 {
@@ -48,7 +48,7 @@ fn end_of(groups: &Groups, shape: Shape, line: usize, rest: &[u8]) -> Ending
 pub fn read_items(
     reader: &mut ItemReader,
     groups: &mut Groups,
-    shape: Shape,
+    shape: TextShape,
     name: &[u8],
     lines: usize,
     bytes: &[u8],

@@ -4,7 +4,7 @@ ghost use Rattle.cert_items.specs.declared.group.Group.TheVariants.{Input as Fir
 ghost use Rattle.cert_items.specs.Items.{rank_of};
 ghost use Rattle.cert_reader.specs.Groups.{base_count, count_of, names_in, IsInTurn, TakesTurn, IsAllShown, IsNextOf, pushed};
 
-use cert_items::{Group, Note, Shape};
+use cert_items::{Group, Note, TextShape};
 use cert_values::{
     ByList, Cover, CoverList, GroundLine, GroundLineList, GroundStep, GroundStepList, Member,
     MemberList,
@@ -140,7 +140,7 @@ impl Groups {
     }
 
     /// Whether the items may be all of a text of the shape: where covers are named, every input and axiom is shown.
-    pub fn is_complete(&self, shape: Shape) -> bool
+    pub fn is_complete(&self, shape: TextShape) -> bool
         ensures { IsTrue result ↔ (IsTrue (names_in shape) → IsAllShown self.now) }
     {
         !shape.names_covers() || self.is_all_shown()
@@ -148,7 +148,7 @@ impl Groups {
 
     /// Whether an item of the group may come next in a text of the shape, under this number and with this clause: its group is not
     /// over, the numbers of a group count from 1, and it is in turn.
-    pub fn may_take(&self, shape: Shape, group: Group, number: usize, clause: &IdClause) -> bool
+    pub fn may_take(&self, shape: TextShape, group: Group, number: usize, clause: &IdClause) -> bool
         ensures { IsTrue result ↔ ((rank_of self.now.last ≤ rank_of group) × (number ≡ suc (count_of group self.now)) × TakesTurn shape group self.now clause.now) }
     {
         rank(self.last) <= rank(group)

@@ -4,7 +4,7 @@ ghost use Rattle.cert_reader.specs.Bodies.{IsNextItem, NoNextItem};
 ghost use Rattle.cert_reader.specs.Groups.{AreGroups, items_of};
 
 use crate::groups::Groups;
-use cert_items::{ItemReader, Shape, read_item};
+use cert_items::{ItemReader, TextShape, read_item};
 use inst_logic::Memory;
 use term_bank::IdClause;
 
@@ -13,7 +13,7 @@ use term_bank::IdClause;
 pub fn next_item<'a>(
     reader: &mut ItemReader,
     groups: &mut Groups,
-    shape: Shape,
+    shape: TextShape,
     bytes: &'a [u8],
 ) -> Result<Option<&'a [u8]>, Memory>
     requires { AreGroups shape reader.old groups.old }

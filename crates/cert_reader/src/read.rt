@@ -21,7 +21,7 @@ use crate::groups::Groups;
 use crate::lines::constant;
 use crate::start::{Start, begin};
 use cert_items::symbol::name_of;
-use cert_items::{ItemReader, Shape};
+use cert_items::{ItemReader, TextShape};
 use cert_values::{Base, Covered, FirstRefutation, Refutation, Saturation};
 use inst_logic::{Kind, Memory, Name, Sym};
 use std::alloc::Global;
@@ -110,7 +110,7 @@ fn saturation(content: Content, format: u64) -> Certificate
 // The items of a text of the shape under this name, of which so many lines have been read.
 fn content_of(
     alloc: Global,
-    shape: Shape,
+    shape: TextShape,
     name: &[u8],
     lines: usize,
     bytes: &[u8],
@@ -148,7 +148,7 @@ fn read_refutation(
     ensures whole { IfOk result IsWholeCertificate }
     ensures refused { (text : List ℕ) → HasRead text (header (refutation_in format) name.now bot.name) [] 4 bytes.now → ¬ HasVersion text → IfErr result (IsCause text) }
 {
-    let shape = Shape {
+    let shape = TextShape {
         refutation: true,
         format,
     };
@@ -169,7 +169,7 @@ fn read_saturation(
     ensures whole { IfOk result IsWholeCertificate }
     ensures refused { (text : List ℕ) → HasRead text (header (saturation_in format) name.now []) [] 3 bytes.now → ¬ HasVersion text → IfErr result (IsCause text) }
 {
-    let shape = Shape {
+    let shape = TextShape {
         refutation: false,
         format,
     };
@@ -217,7 +217,7 @@ fn begun_refutation(
 // The certificate of the shape under this name, of whose text three lines have been read.
 fn read_begun(
     alloc: Global,
-    shape: Shape,
+    shape: TextShape,
     name: &[u8],
     bytes: &[u8],
 ) -> Result<Certificate, CertError>

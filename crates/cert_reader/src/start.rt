@@ -5,12 +5,12 @@ ghost use Rattle.cert_format.specs.LineTexts.{line, is_text_name};
 ghost use Rattle.cert_reader.specs.Starts.{IsStart};
 
 use crate::lines::{format, format_of, is_other_format, opening, status};
-use cert_items::Shape;
+use cert_items::TextShape;
 
 /// How a text begins.
 pub enum Start<'a> {
     /// As that of a certificate, of this shape, under this name; and what follows the first three lines.
-    Begun(Shape, &'a [u8], &'a [u8]),
+    Begun(TextShape, &'a [u8], &'a [u8]),
     /// This line is the first that stands there in the text of no certificate.
     Bad(usize),
     /// As that of a certificate in a format that is not read, whose number has these digits.
@@ -24,7 +24,7 @@ fn third<'a>(refutation: bool, name: &'a [u8], bytes: &'a [u8]) -> Start<'a>
     match format(bytes) {
         None => Start::Bad(3),
         Some((digits, rest)) => match format_of(digits) {
-            Some(format) => Start::Begun(Shape { refutation, format }, name, rest),
+            Some(format) => Start::Begun(TextShape { refutation, format }, name, rest),
             None => {
                 if is_other_format(digits) {
                     Start::Other(digits)

@@ -6,7 +6,7 @@ use Rattle.std.proofs.lemmas.Option.{slice_get_within, slice_get-get_or, get_or_
 use Rattle.inst_logic.specs.declared.signed.Signed.{Signed}
 use Rattle.inst_logic.specs.Derivations.{at_number}
 use Rattle.inst_calculus.specs.Entries.{Entry}
-use Rattle.inst_calculus.specs.Models.{Member as Selected}
+use Rattle.inst_calculus.specs.Models.{SelectedClause}
 use Rattle.term_bank.specs.Forest.{literal_tree, clause_at}
 use Rattle.cert_format.specs.Validity.{SelectsAt}
 use Rattle.cert_format.proofs.Numbers.{slice_get_of_map, same_item}
@@ -26,7 +26,7 @@ record IsChosen (c : Saturation) (i : ℕ) (x : Member) : Type 0 where
   stands : IsSelectedLiteral c (suc i) literal
 
 module _ (c : Saturation) (whole : IsWholeSaturation c) (i : ℕ) where
-  literal_of : (x : Member) → slice_get c.base.members i ≡ Some x → (m : Selected) → SelectsAt (saturation_of c) (suc i) m
+  literal_of : (x : Member) → slice_get c.base.members i ≡ Some x → (m : SelectedClause) → SelectsAt (saturation_of c) (suc i) m
       → (place : ℕ) → slice_get c.places i ≡ Some (suc place) → (literal : Signed ℕ) → slice_get x.clause place ≡ Some literal → literal_tree c.base.bank literal ≡ m.selected
       → IsChosen c i x
   literal_of x at m s place place_at literal here same =
@@ -44,7 +44,7 @@ module _ (c : Saturation) (whole : IsWholeSaturation c) (i : ℕ) where
         stands = record { member = m; is = s; within = subst (λ (k : Signed ℕ). k.atom < length c.base.bank.trees) l t; literal = sym same };
       }
 
-  chosen_by : (x : Member) → slice_get c.base.members i ≡ Some x → (m : Selected) → SelectsAt (saturation_of c) (suc i) m → IsChosen c i x
+  chosen_by : (x : Member) → slice_get c.base.members i ≡ Some x → (m : SelectedClause) → SelectsAt (saturation_of c) (suc i) m → IsChosen c i x
   chosen_by x at m s = by_place s.place s.place_at here
     where
       entry : entry_of c.base.bank x ≡ s.entry
@@ -91,12 +91,12 @@ module _ (c : Saturation) (whole : IsWholeSaturation c) (i : ℕ) where
         subst (λ (y : Signed ℕ). IsSelectedLiteral c (suc i) y) (sym (l_is ∙ t)) k.stands
 
 -- the literal of ids that a member selects
-pub literal_of_member : (c : Saturation) → IsWholeSaturation c → (i : ℕ) (m : Selected) → SelectsAt (saturation_of c) (suc i) m → (l : Signed ℕ) × IsSelectedLiteral c (suc i) l × (m.selected ≡ literal_tree c.base.bank l)
+pub literal_of_member : (c : Saturation) → IsWholeSaturation c → (i : ℕ) (m : SelectedClause) → SelectsAt (saturation_of c) (suc i) m → (l : Signed ℕ) × IsSelectedLiteral c (suc i) l × (m.selected ≡ literal_tree c.base.bank l)
 literal_of_member c whole i m s =
     let (x, at, same) = slice_get_of_map (entry_of c.base.bank) c.base.members i s.entry s.entry_at in
     let k = chosen_by c whole i x at m s in
     let e : m ≡ k.stands.member = selected_once (saturation_of c).base.members (saturation_of c).places (suc i) m k.stands.member s k.stands.is in
-    (k.literal, k.stands, ap (λ (y : Selected). y.selected) e ∙ k.stands.literal)
+    (k.literal, k.stands, ap (λ (y : SelectedClause). y.selected) e ∙ k.stands.literal)
 
 -- a selected literal's number is that of a member
 pub number_within : (c : Saturation) (n : ℕ) (l : Signed ℕ) → IsSelectedLiteral c n l → (0 < n) × (n ≤ length c.base.members)

@@ -3,7 +3,7 @@ use Rattle.std.specs.Prelude.{◌≡◌, ◌<◌, ℕ, ◌^◌, ◌-◌, List, l
 use Rattle.inst_logic.specs.declared.signed.Signed.{Signed}
 use Rattle.inst_logic.specs.Measure.{tree_weight}
 use Rattle.inst_logic.specs.WellFormed.{IsAtom, IsTerm}
-use Rattle.inst_calculus.specs.Models.{Member as Selected}
+use Rattle.inst_calculus.specs.Models.{SelectedClause}
 use Rattle.term_bank.specs.Forest.{Forest, AreFormed, Extends, IsClauseOf, tree_at, is_ground}
 use Rattle.cert_format.specs.Certificate as format
 use Rattle.cert_format.specs.Validity.{IsRightPlace}
@@ -91,7 +91,7 @@ abbrev pub HasPlaces : format.Saturation → Type 0
 HasPlaces c = (n : ℕ) → IsRightPlace c n
 
 -- the selected literals are lighter than 2 ^ 64 - 1, so that the bank's weights tell theirs
-abbrev pub AreLight : List Selected → Type 0
+abbrev pub AreLight : List SelectedClause → Type 0
 AreLight ms = All (λ m. tree_weight m.selected.atom < 2 ^ 64 - 1) ms
 
 -- a ground atom of the bank

@@ -5,7 +5,7 @@ use Rattle.inst_logic.specs.Clauses.{TreeClause, IsGround, IsInstance}
 use Rattle.inst_logic.specs.Derivations.{at_number}
 use Rattle.inst_logic.specs.Truth.{IsRefuted}
 use Rattle.inst_calculus.specs.Axioms.{with_axioms}
-use Rattle.inst_calculus.specs.Models.{Member, Makes}
+use Rattle.inst_calculus.specs.Models.{SelectedClause, Makes}
 
 -- the clauses at these places, which count from 1
 abbrev pub clauses_at : List TreeClause → List ℕ → List TreeClause
@@ -19,7 +19,7 @@ pub record HasRefutation (cs : List TreeClause) : Type 0 where
 
 -- a list with selected literals makes the clauses and their axioms true
 pub record HasSelection (cs : List TreeClause) : Type 0 where
-  pub members : List Member
+  pub members : List SelectedClause
   pub makes : All (Makes members) (with_axioms cs)
 
 -- a rising list of places of the clauses

@@ -6,7 +6,7 @@ use Rattle.inst_logic.specs.Substitution.{Substitution, subst_literal, followed_
 use Rattle.inst_logic.specs.Clauses.{TreeClause, instance, canonical_form, order_of, IsGround}
 use Rattle.inst_logic.specs.Truth.{IsTrueLiteral}
 use Rattle.inst_logic.proofs.Membership.{◌∈◌, any_in, nothing_in}
-use Rattle.inst_calculus.specs.Models.{Member, IsTrueBy, Makes}
+use Rattle.inst_calculus.specs.Models.{SelectedClause, IsTrueBy, Makes}
 use Rattle.inst_calculus.proofs.Trees.{IsGrounding, ground_under}
 use Rattle.inst_calculus.proofs.Clauses.{literal_of, from_instance, literal_followed}
 use Rattle.inst_calculus.proofs.CanonicalForms.{unnumbered, canonical_within}
@@ -18,7 +18,7 @@ ground_instance s g c = nothing_in (clause_vars (instance s c)) (λ v i.
     transport (λ vs. v ∈ vs) (ap (λ (x : Signed Tree). tree_vars x.atom) (sym e) ∙ ground_under s g k.atom) u)
 
 -- what makes the canonical form true makes the clause true
-pub true_literal : (ms : List Member) (c : TreeClause) → Makes ms (canonical_form c) → (s : Substitution) → IsGrounding s → (l : Signed Tree) × (l ∈ c) × IsTrueLiteral (IsTrueBy ms) (subst_literal s l)
+pub true_literal : (ms : List SelectedClause) (c : TreeClause) → Makes ms (canonical_form c) → (s : Substitution) → IsGrounding s → (l : Signed Tree) × (l ∈ c) × IsTrueLiteral (IsTrueBy ms) (subst_literal s l)
 true_literal ms c makes s g =
     let back : Substitution = unnumbered (order_of c) in
     let r : Substitution = followed_by back s in

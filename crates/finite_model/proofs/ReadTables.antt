@@ -19,7 +19,7 @@ use Rattle.inst_logic.specs.WellFormed.{AreFormedClauses, fits_kind, is_function
 use Rattle.inst_logic.proofs.SameLemmas.{tree_eq_decides, and_right}
 use Rattle.inst_logic.proofs.Membership.{◌∈◌, in_contains, in_all, all_in, in_any, in_left, in_right, in_either, in_map, from_map}
 use Rattle.inst_calculus.specs.Axioms.{is_predicate_kind}
-use Rattle.inst_calculus.specs.Models.{Member, IsTrueBy, Makes}
+use Rattle.inst_calculus.specs.Models.{SelectedClause, IsTrueBy, Makes}
 use Rattle.inst_calculus.proofs.Distinct.{map_append}
 use Rattle.inst_calculus.proofs.Instances.{HasAtomsOver}
 use Rattle.inst_calculus.proofs.NotRefuted.{signed_to}
@@ -34,7 +34,7 @@ use Rattle.finite_model.proofs.Cells.{values_are_arguments}
 use Rattle.inst_logic.proofs.Numbering.{substs_of_list}
 use Rattle.finite_model.proofs.Grounding.{true_literal}
 
-module _ (k : ℕ) (cs : List TreeClause) (ms : List Member) (makes : (c : TreeClause) → c ∈ plain_clauses k cs → Makes ms (canonical_form c)) where
+module _ (k : ℕ) (cs : List TreeClause) (ms : List SelectedClause) (makes : (c : TreeClause) → c ∈ plain_clauses k cs → Makes ms (canonical_form c)) where
   identity_is_plain : (c : TreeClause) → c ∈ identity_clauses k → c ∈ plain_clauses k cs
   identity_is_plain c i = in_left c (identity_clauses k ++ flat_map (function_clauses k (numbers_of cs)) (functions_of cs)) (map (flat_clause (numbers_of cs)) cs)
       (in_left c (identity_clauses k) (flat_map (function_clauses k (numbers_of cs)) (functions_of cs)) i)
@@ -212,5 +212,5 @@ module _ (k : ℕ) (cs : List TreeClause) (ms : List Member) (makes : (c : TreeC
         by_order e h t d g s (no n) (yes less) = absurd (not_both e d h g less t s)
         by_order e h t d g s (no n) (no m) = omega arith
 
-pub makes_plain : (k : ℕ) (cs : List TreeClause) (ms : List Member) → All (Makes ms) (flattened k cs) → (c : TreeClause) → c ∈ plain_clauses k cs → Makes ms (canonical_form c)
+pub makes_plain : (k : ℕ) (cs : List TreeClause) (ms : List SelectedClause) → All (Makes ms) (flattened k cs) → (c : TreeClause) → c ∈ plain_clauses k cs → Makes ms (canonical_form c)
 makes_plain k cs ms makes c i = all_in (Makes ms) (flattened k cs) makes (canonical_form c) (in_map canonical_form c (plain_clauses k cs) i)

@@ -4,7 +4,7 @@ use Rattle.inst_logic.specs.declared.symbol.Sym.{Sym}
 use Rattle.inst_logic.specs.declared.symbol.Kind.TheVariants.{Predicate}
 use Rattle.inst_logic.specs.Tree.{Tree}
 use Rattle.inst_logic.specs.Clauses.{TreeClause}
-use Rattle.inst_calculus.specs.Models.{Member, IsTrueBy}
+use Rattle.inst_calculus.specs.Models.{SelectedClause, IsTrueBy}
 use Rattle.finite_model.specs.declared.tables.Table.{Table}
 use Rattle.finite_model.specs.declared.tables.Tables.{Tables}
 use Rattle.finite_model.specs.Tables.{IsElement, place_after, cell_at, functions_of, predicates_of}
@@ -25,7 +25,7 @@ predicate_atom cs p es = applied (numbered_predicate (numbers_of cs) p) (map ele
 
 -- Each cell of a function is an element that the test takes for the value. A cell of a predicate is 1 where the test takes the
 -- atom for true, and 0 elsewhere.
-pub record AreRead (k : ℕ) (cs : List TreeClause) (ms : List Member) (ts : Tables) : Type 0 where
+pub record AreRead (k : ℕ) (cs : List TreeClause) (ms : List SelectedClause) (ts : Tables) : Type 0 where
   pub element : (f : Sym) → Contains (functions_of cs) f → (es : List ℕ) → AreArguments k f es → IsElement k (cell_at k ts.functions f es)
   pub value : (f : Sym) → Contains (functions_of cs) f → (es : List ℕ) → AreArguments k f es → IsTrueBy ms (value_atom cs f es (cell_at k ts.functions f es))
   pub truth : (p : Sym) → Contains (predicates_of cs) p → (es : List ℕ) → AreArguments k p es
@@ -48,26 +48,26 @@ pub record AreFilled (k n : ℕ) (P : List ℕ → ℕ → Type 0) (rows : ℕ) 
   pub cell : (row : ℕ) → row < rows → (es : List ℕ) × IsRow k n row es × P es (slice_index_or cells row 0)
 
 -- the test takes the element for the value at the arguments, where the symbol stands for a function
-abbrev pub IsValueAt : List Member → ℕ → Sym → List ℕ → ℕ → Type 0
+abbrev pub IsValueAt : List SelectedClause → ℕ → Sym → List ℕ → ℕ → Type 0
 IsValueAt ms k s es e = IsElement k e × IsTrueBy ms (applied s (map element es ++ element e ∷ []))
 
 -- 1 where the test takes the atom for true, and 0 elsewhere
-abbrev pub IsTruthAt : List Member → Sym → List ℕ → ℕ → Type 0
+abbrev pub IsTruthAt : List SelectedClause → Sym → List ℕ → ℕ → Type 0
 IsTruthAt ms s es n = ((n ≡ 1) × IsTrueBy ms (applied s (map element es))) ⊎ ((n ≡ 0) × ¬ IsTrueBy ms (applied s (map element es)))
 
 -- at all arguments there is a value
-abbrev pub HasValues : List Member → ℕ → ℕ → Sym → Type 0
+abbrev pub HasValues : List SelectedClause → ℕ → ℕ → Sym → Type 0
 HasValues ms k n s = (es : List ℕ) → All (IsElement k) es → length es ≡ n → (e : ℕ) × IsValueAt ms k s es e
 
 -- tables whose cells were read one after another
-pub record IsReadFunction (ms : List Member) (k : ℕ) (ns : Numbers) (t : Table) : Type 0 where
+pub record IsReadFunction (ms : List SelectedClause) (k : ℕ) (ns : Numbers) (t : Table) : Type 0 where
   pub cells : AreFilled k t.sym.arity (IsValueAt ms k (function_predicate ns t.sym)) (k ^ t.sym.arity) t.cells
 
-pub record IsReadPredicate (ms : List Member) (k : ℕ) (ns : Numbers) (t : Table) : Type 0 where
+pub record IsReadPredicate (ms : List SelectedClause) (k : ℕ) (ns : Numbers) (t : Table) : Type 0 where
   pub cells : AreFilled k t.sym.arity (IsTruthAt ms (numbered_predicate ns t.sym)) (k ^ t.sym.arity) t.cells
 
 -- those of the symbols of a numbering, in its order
-pub record AreReadBy (ms : List Member) (k : ℕ) (ns : Numbers) (ts : Tables) : Type 0 where
+pub record AreReadBy (ms : List SelectedClause) (k : ℕ) (ns : Numbers) (ts : Tables) : Type 0 where
   pub functions : map (λ t. t.sym) ts.functions ≡ ns.functions
   pub predicates : map (λ t. t.sym) ts.predicates ≡ ns.predicates
   pub read_functions : All (IsReadFunction ms k ns) ts.functions

@@ -3,7 +3,7 @@ ghost use Rattle.std.specs.Prelude.{◌≡◌, ◌↔◌, ◌+◌, ◌^◌, ◌+
 ghost use Rattle.inst_logic.specs.LiteralView.{literal};
 ghost use Rattle.inst_logic.specs.Substitution.{tree_vars};
 ghost use Rattle.inst_logic.specs.WellFormed.{IsAtom};
-ghost use Rattle.inst_calculus.specs.Models.{Member, IsTrueBy};
+ghost use Rattle.inst_calculus.specs.Models.{SelectedClause, IsTrueBy};
 ghost use Rattle.finite_model.specs.Flattening.{applied, element};
 ghost use Rattle.finite_model.specs.Reading.{AreFilled, IsRelation, IsValueAt, IsTruthAt, HasValues};
 
@@ -15,7 +15,7 @@ use std::alloc::Global;
 /// Tells whether ground atoms are true by some clauses with selected literals.
 pub trait TruthTest {
     /// The clauses, each with its selected literal.
-    ghost members: { Self → List Member };
+    ghost members: { Self → List SelectedClause };
 
     /// What the test needs to answer.
     ghost ready: { Self → Type 0 };

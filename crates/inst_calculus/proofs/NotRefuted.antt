@@ -6,7 +6,7 @@ use Rattle.inst_logic.specs.Signed.{signed}
 use Rattle.inst_logic.specs.Substitution.{clause_vars}
 use Rattle.inst_logic.specs.Clauses.{TreeClause, instance, IsGround, IsInstance, IsPart}
 use Rattle.inst_logic.specs.Truth.{IsTrueLiteral, IsTrueClause, IsRefuted}
-use Rattle.inst_calculus.specs.Models.{Member, IsTrueBy, Makes}
+use Rattle.inst_calculus.specs.Models.{SelectedClause, IsTrueBy, Makes}
 use Rattle.inst_calculus.proofs.Membership.{◌∈◌, contains_in, in_contains, any_in, in_any, all_in, in_all, in_map, nothing_in}
 use Rattle.inst_calculus.proofs.MadeLists.{in_flat_map}
 use Rattle.inst_calculus.proofs.Filters.{from_filter, in_filter}
@@ -58,7 +58,7 @@ ground_part c d part ground = nothing_in (clause_vars d) (λ v i.
     let (l, j, u) = literal_of v d i in
     transport (λ vs. v ∈ vs) ground (variable_of v l c (contains_in l c (all_in (Contains c) d part l j)) u))
 
-module _ (ms : List Member) (cs : List TreeClause) (makes : All (Makes ms) cs) where
+module _ (ms : List SelectedClause) (cs : List TreeClause) (makes : All (Makes ms) cs) where
   -- a ground instance of a clause that the members make true is true by them
   pub true_instance : (g : TreeClause) → IsGround g → Any (IsInstance g) cs → IsTrueClause (IsTrueBy ms) g
   true_instance g ground some =

@@ -2,12 +2,12 @@
 -- a part is known to be worked.
 use Rattle.std.proofs.Common.{◌≡◌, ◌≢◌, ℕ, ◌<◌, ◌≤◌, List, [], ◌++◌, ◌⊎◌, inl, inr, refl, sym, ap, subst as transport, length, arith, Contains, Bool, true, false, None, Some}
 use Rattle.std.specs.Prelude.{Option, IfSome, IfOk, Result, Ok, Err, MatchOption}
-use Rattle.term_index.specs.Pairs.{Pair, Gives}
+use Rattle.term_index.specs.Pairs.{Posting, Gives}
 use Rattle.inst_logic.specs.declared.signed.Signed.{Signed}
 use Rattle.inst_logic.specs.Tree.{Tree}
 use Rattle.inst_logic.specs.Unifiers.{Sided, IsMostGeneral}
 use Rattle.inst_calculus.specs.Entries.{Entry}
-use Rattle.inst_calculus.specs.Models.{Member}
+use Rattle.inst_calculus.specs.Models.{SelectedClause}
 use Rattle.inst_calculus.proofs.Membership.{contains_in}
 use Rattle.inst_calculus.proofs.Distinct.{length_map}
 use Rattle.inst_calculus.proofs.Choice.{swapped, swapped_general}
@@ -27,7 +27,7 @@ use Rattle.instgen_loop.proofs.Works.{at_number_map, placed_tree, entries_grow, 
 -- Members of the same literal
 
 module _ {S I C : Type 0} (r : Run S I C) (n : ℕ) (l : Signed ℕ) (h : IsSelectedLiteral r n l) where
-  abbrev member : Member
+  abbrev member : SelectedClause
   member = record { clause = clause_at r.entries.bank h.item.0; selected = record { positive = l.positive; atom = tree_at r.entries.bank l.atom } }
 
   member_placed : IsPlaced (entries_in r.entries.bank (items r)) r.selection.places n member
@@ -40,8 +40,8 @@ module _ {S I C : Type 0} (r : Run S I C) (n : ℕ) (l : Signed ℕ) (h : IsSele
     selected = at_number_map (λ (x : Signed ℕ). record { positive = x.positive; atom = tree_at r.entries.bank x.atom }) h.item.0 h.place l h.literal_at;
   }
 
-  placed_literal : (m : Member) → IsPlaced (entries_in r.entries.bank (items r)) r.selection.places n m → m.selected ≡ record { positive = l.positive; atom = tree_at r.entries.bank l.atom }
-  placed_literal m k = ap (λ (x : Member). x.selected) (placed_once (entries_in r.entries.bank (items r)) r.selection.places n m member k member_placed)
+  placed_literal : (m : SelectedClause) → IsPlaced (entries_in r.entries.bank (items r)) r.selection.places n m → m.selected ≡ record { positive = l.positive; atom = tree_at r.entries.bank l.atom }
+  placed_literal m k = ap (λ (x : SelectedClause). x.selected) (placed_once (entries_in r.entries.bank (items r)) r.selection.places n m member k member_placed)
 
 none_contained : (h : Held) → Contains [] h → ⊥
 none_contained h i = contains_in h [] i
@@ -102,7 +102,7 @@ pair_by_parts r i j a b s g first second left right = (
   λ n m o l. (both m n l o).1 n m o l,
 )
   where
-    both : (m n : Member) (l : IsPlaced (entries_in r.entries.bank (items r)) r.selection.places i m) (o : IsPlaced (entries_in r.entries.bank (items r)) r.selection.places j n) → IsWorkedWith r i j × IsWorkedWith r j i
+    both : (m n : SelectedClause) (l : IsPlaced (entries_in r.entries.bank (items r)) r.selection.places i m) (o : IsPlaced (entries_in r.entries.bank (items r)) r.selection.places j n) → IsWorkedWith r i j × IsWorkedWith r j i
     both m n l o = elim (same_or_not m.selected.positive n.selected.positive) [
       | inl e ↦ worked_same_sign (entries_in r.entries.bank (items r)) r.selection.places (held_of r) i j m n l o e
       | inr d ↦ worked_by_one (entries_in r.entries.bank (items r)) r.selection.places (held_of r) i j m n l o s general
@@ -133,7 +133,7 @@ indexed_stays old new goes entries within indexed j short h = if_some_weaker ind
 )) h
 
 -- the first pair of a walk is one of the index
-pub found_in : {E : Type 0} (res : Result (Option ℕ) E) (ps : List Pair) (before after : Pair → Type 0) (N M : Type 0) → ((p : Pair) → before p → Contains ps p)
+pub found_in : {E : Type 0} (res : Result (Option ℕ) E) (ps : List Posting) (before after : Posting → Type 0) (N M : Type 0) → ((p : Posting) → before p → Contains ps p)
     → IfOk res (λ r. MatchOption r N (λ entry. Gives before entry after × M)) → IfOk res (λ o. IfSome o (λ k. (atom : ℕ) × Contains ps (atom, k)))
 found_in (Ok None) ps before after N M stored h = tt
 found_in (Ok (Some k)) ps before after N M stored h = let (atom, here, rest) = h.0 in (atom, stored (atom, k) here)

@@ -22,7 +22,7 @@ use Rattle.term_bank.specs.Forest.{Forest, AreDistinct, IsClauseOf, clause_at, i
 use Rattle.term_bank.proofs.Clauses.{same_literal}
 use Rattle.clause_form.proofs.Ids.{head_id, same_ids}
 use Rattle.clause_form.proofs.Readings.{ground_stays}
-use Rattle.term_index.specs.Pairs.{Pair, Gives}
+use Rattle.term_index.specs.Pairs.{Posting, Gives}
 use Rattle.inst_calculus.proofs.Items.{same_item}
 use Rattle.cert_values.specs.declared.member.Origin.{Origin}
 use Rattle.instgen_loop.specs.declared.entries.Entries.{Entries}
@@ -46,23 +46,23 @@ not_shorter f es d len k e o n q l s =
 
 -- Walks
 
-abbrev pub IsPassed : Forest → List Item → List (Signed ℕ) → ℕ → (Pair → Type 0) → (Pair → Type 0) → Type 0
-IsPassed f es d len asked comes = (p : Pair) → asked p → comes p ⊎ ¬ IsShorterPart f es d len p.1
+abbrev pub IsPassed : Forest → List Item → List (Signed ℕ) → ℕ → (Posting → Type 0) → (Posting → Type 0) → Type 0
+IsPassed f es d len asked comes = (p : Posting) → asked p → comes p ⊎ ¬ IsShorterPart f es d len p.1
 
-pub same_pair : (p q : Pair) → (p ≡ q) ⊎ ¬ (p ≡ q)
+pub same_pair : (p q : Posting) → (p ≡ q) ⊎ ¬ (p ≡ q)
 same_pair p q = go (nat_eq p.0 q.0) (nat_eq p.1 q.1) (Decides-eqb p.0 q.0) (Decides-eqb p.1 q.1)
   where
     go : (a b : Bool) → Decides a (p.0 ≡ q.0) → Decides b (p.1 ≡ q.1) → (p ≡ q) ⊎ ¬ (p ≡ q)
     go true true d e = inl (λ i. (d.0 refl i, e.0 refl i))
-    go false b d e = inr (λ k. not_from_Decides false d refl (ap (λ (x : Pair). x.0) k))
-    go true false d e = inr (λ k. not_from_Decides false e refl (ap (λ (x : Pair). x.1) k))
+    go false b d e = inr (λ k. not_from_Decides false d refl (ap (λ (x : Posting). x.0) k))
+    go true false d e = inr (λ k. not_from_Decides false e refl (ap (λ (x : Posting). x.1) k))
 
-pub passes_on : (f : Forest) (es : List Item) (d : List (Signed ℕ)) (len k : ℕ) (asked before after : Pair → Type 0) → IsPassed f es d len asked before → Gives before k after
+pub passes_on : (f : Forest) (es : List Item) (d : List (Signed ℕ)) (len k : ℕ) (asked before after : Posting → Type 0) → IsPassed f es d len asked before → Gives before k after
     → ¬ IsShorterPart f es d len k → IsPassed f es d len asked after
 passes_on f es d len k asked before after h (atom, here, rest) n p a = go (h p a)
   where
     first : before p → (p ≡ (atom, k)) ⊎ ¬ (p ≡ (atom, k)) → after p ⊎ ¬ IsShorterPart f es d len p.1
-    first b (inl e) = inr (λ s. n (transport (λ (x : Pair). IsShorterPart f es d len x.1) e s))
+    first b (inl e) = inr (λ s. n (transport (λ (x : Posting). IsShorterPart f es d len x.1) e s))
     first b (inr m) = inl ((rest p).1 (b, m))
 
     go : before p ⊎ ¬ IsShorterPart f es d len p.1 → after p ⊎ ¬ IsShorterPart f es d len p.1
@@ -87,7 +87,7 @@ unit_within f m d still (s, part) =
     let (l, j, e) = from_map (literal_tree f) (subst_literal s first) d i in
     (l, j, e ∙ ap (λ t. record { positive = m.positive; atom = t }) (ground_stays s (tree_at f m.atom) still))
 
-module _ {I C : Type 0} (pairs : I → List Pair) (n : Entries I C) (es : List Item) (d : List (Signed ℕ)) (len : ℕ) where
+module _ {I C : Type 0} (pairs : I → List Posting) (n : Entries I C) (es : List Item) (d : List (Signed ℕ)) (len : ℕ) where
   pub none_is_shorter : AreFirsts pairs n es → AreDistinct n.bank.trees → AreEntries n.bank es → IsClauseOf n.bank d → len ≤ n.longest → n.has_empty ≡ false → All (IsNoUnit n.bank es) d
       → All (IsPast n.bank (pairs n.first) es d len) d → ¬ HasShorterPart n.bank es d len
   none_is_shorter firsts distinct entries ids within no_empty lacks passed (zero, s) = cc (s.item_at)
@@ -146,7 +146,7 @@ module _ (f : Forest) (es : List Item) (d : List (Signed ℕ)) (c : TreeClause) 
   item_in : (e : Item) → Contains es e → Contains (clauses_in f es) (clause_at f e.0)
   item_in e h = in_contains (clause_at f e.0) (clauses_in f es) (in_map (λ (x : Item). clause_at f x.0) e es (contains_in e es h))
 
-  pub covered_by_empty : {I C : Type 0} (pairs : I → List Pair) (n : Entries I C) → AreFirsts pairs n es → n.has_empty ≡ true → 0 < length c → Covered
+  pub covered_by_empty : {I C : Type 0} (pairs : I → List Posting) (n : Entries I C) → AreFirsts pairs n es → n.has_empty ≡ true → 0 < length c → Covered
   covered_by_empty pairs n firsts t l =
       let (i, e, at, none) = firsts.empty t in
       let q : clause_at f e.0 ≡ [] = ap (clause_at f) none in

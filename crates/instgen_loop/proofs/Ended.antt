@@ -7,7 +7,7 @@ use Rattle.inst_calculus.specs.Entries.{Entry}
 use Rattle.inst_calculus.proofs.Membership.{all_in, in_all}
 use Rattle.engine_laws.specs.Pairs.{AreWorked, IsHeldBack}
 use Rattle.term_bank.specs.Forest.{Forest, IsClauseOf}
-use Rattle.term_index.specs.Pairs.{Pair}
+use Rattle.term_index.specs.Pairs.{Posting}
 use Rattle.instgen_loop.specs.declared.start.Given.{Given}
 use Rattle.instgen_loop.specs.declared.state.Run.{Run}
 use Rattle.instgen_loop.specs.declared.premises.Premises.{Premises}
@@ -33,7 +33,7 @@ held_conclude atoms added r cs budget (bot, v, h) = go r.left refl
     go (Some k) e = in_all (IsSomeConclusion (entries_of r)) (held_of r) (λ x i. let b = all_in (IsHeldBack (entries_of r) k) (held_of r) (h.held k e) x i in (b.clause, b.concluded))
 
 module _ {S I C : Type 0} (old new : Run S I C) (reads : Reads old new) where
-  tended_read : (pairs : I → List Pair) (p : Partners I C) → entries_in new.entries.bank (items old) ≡ entries_of old → AreTended pairs old p → AreTended pairs new p
+  tended_read : (pairs : I → List Posting) (p : Partners I C) → entries_in new.entries.bank (items old) ≡ entries_of old → AreTended pairs old p → AreTended pairs new p
   tended_read pairs p same h = transport (λ r. AreTended pairs r p) (sym reads.rest) (record {
     once = h.once;
     positive = h.positive;
@@ -42,7 +42,7 @@ module _ {S I C : Type 0} (old new : Run S I C) (reads : Reads old new) where
     worked = transport (λ (es : List Entry). AreWorked es old.selection.places (held_of old) (indexed_of pairs p)) (sym same) h.worked;
   })
 
-  pub rest_read : (atoms : S → ℕ) (pairs : I → List Pair) (fits : Forest → I → Type 0) (p : Partners I C) → IsConsistent atoms pairs fits old → IsConsistent atoms pairs fits new → AreTended pairs old p
+  pub rest_read : (atoms : S → ℕ) (pairs : I → List Posting) (fits : Forest → I → Type 0) (p : Partners I C) → IsConsistent atoms pairs fits old → IsConsistent atoms pairs fits new → AreTended pairs old p
       → old.queue.items ≡ [] → length old.selection.places ≡ length (items old) → IsAtRest atoms pairs fits new p
   rest_read atoms pairs fits p before safe tended rests whole = record {
     safe = safe;
@@ -51,7 +51,7 @@ module _ {S I C : Type 0} (old new : Run S I C) (reads : Reads old new) where
     whole = ap (λ (r : Run S I C). length r.selection.places) reads.rest ∙ whole ∙ sym (ap (λ (r : Run S I C). length (items r)) reads.rest);
   }
 
-  pub solved_read : (atoms : S → ℕ) (added : S → List (List (Signed ℕ))) (pairs : I → List Pair) (fits : Forest → I → Type 0) (cs : List TreeClause) (budget : ℕ) → IsConsistent atoms pairs fits old
+  pub solved_read : (atoms : S → ℕ) (added : S → List (List (Signed ℕ))) (pairs : I → List Posting) (fits : Forest → I → Type 0) (cs : List TreeClause) (budget : ℕ) → IsConsistent atoms pairs fits old
       → IsSolvedFor atoms added old cs budget → IsSolvedFor atoms added new cs budget
   solved_read atoms added pairs fits cs budget safe (bot, v, h) = (bot, v, running_read atoms added old new reads safe.entries bot cs budget v h)
 

@@ -28,7 +28,7 @@ use Rattle.engine_laws.specs.Places.{ArePlacedTrue}
 use Rattle.engine_laws.specs.Pairs.{IsDecided}
 use Rattle.engine_laws.proofs.SelectedEntries.{selection}
 use Rattle.term_bank.specs.Forest.{Forest}
-use Rattle.term_index.specs.Pairs.{Pair}
+use Rattle.term_index.specs.Pairs.{Posting}
 use Rattle.cert_values.specs.declared.certificate.Saturation.{Saturation}
 use Rattle.cert_values.specs.Values.{entry_of, saturation_of}
 use Rattle.instgen_loop.specs.declared.ending.Ending.TheVariants.{Saturated}
@@ -65,7 +65,7 @@ settled_by_places bot t places h whole = in_all (λ (e : Entry). IsTrueClause (C
     transport (λ (x : Entry). IsTrueClause (Contains t.valuation) (abstraction bot x.clause)) same
     (clause_is_true bot t p.entry.clause m.selected (contains_in m.selected p.entry.clause (at_number_contains p.entry.clause p.place m.selected p.selected)) holds))
 
-module _ {S I C : Type 0} (atoms : S → ℕ) (added : S → List (List (Signed ℕ))) (pairs : I → List Pair) (fits : Forest → I → Type 0) (r : Run S I C) (p : Partners I C) (g : Given) (clauses : List TreeClause) (names : List (List ℕ))
+module _ {S I C : Type 0} (atoms : S → ℕ) (added : S → List (List (Signed ℕ))) (pairs : I → List Posting) (fits : Forest → I → Type 0) (r : Run S I C) (p : Partners I C) (g : Given) (clauses : List TreeClause) (names : List (List ℕ))
     (budget : ℕ) (v : List Tree) (rest : IsAtRest atoms pairs fits r p) (h : IsRunning atoms added r r.ground.abstraction.bot (with_axioms clauses) budget v true) (problem : IsOfProblem r g clauses) where
   abbrev f : Forest
   f = r.entries.bank
@@ -139,7 +139,7 @@ pub own_constant : {S I C : Type 0} (atoms : S → ℕ) (added : S → List (Lis
     → IsRunning atoms added r constant cs budget v true → IsRunning atoms added r r.ground.abstraction.bot cs budget v true
 own_constant atoms added r constant cs budget v h = transport (λ x. IsRunning atoms added r x cs budget v true) (sym h.linked.constant) h
 
-pub saturated_outcome : {S I C : Type 0} (atoms : S → ℕ) (added : S → List (List (Signed ℕ))) (pairs : I → List Pair) (fits : Forest → I → Type 0) (r : Run S I C) (p : Partners I C) (g : Given) (clauses : List TreeClause) (names : List (List ℕ))
+pub saturated_outcome : {S I C : Type 0} (atoms : S → ℕ) (added : S → List (List (Signed ℕ))) (pairs : I → List Posting) (fits : Forest → I → Type 0) (r : Run S I C) (p : Partners I C) (g : Given) (clauses : List TreeClause) (names : List (List ℕ))
     (budget : ℕ) → IsAtRest atoms pairs fits r p → IsSolvedFor atoms added r (with_axioms clauses) budget → IsOfProblem r g clauses → All IsPrintableClause clauses → length names ≡ length clauses
     → All (λ n. IsTrue (is_readable_name n)) names → All (IsDecided (entries_of r) r.selection.places []) (held_of r) → (state : SettledRun) (log : Log) → state ≡ settled_from r g → log ≡ r.log
     → IsEndingAfter clauses names budget (Saturated state) log

@@ -8,7 +8,7 @@ use Rattle.inst_logic.proofs.ShownLaws.{slice_get_append, slice_get_contains}
 use Rattle.inst_calculus.proofs.Membership.{◌∈◌, contains_in, all_in}
 use Rattle.engine_laws.proofs.Lists.{slice_get_last}
 use Rattle.inst_calculus.proofs.Items.{same_item}
-use Rattle.term_index.specs.Pairs.{Pair, Adds}
+use Rattle.term_index.specs.Pairs.{Posting, Adds}
 use Rattle.cert_values.specs.declared.member.Origin.{Origin}
 use Rattle.term_bank.specs.Forest.{Forest, Extends, IsClauseOf, is_ground, tree_at}
 use Rattle.clause_form.proofs.Ids.{head_id}
@@ -37,7 +37,7 @@ alone [] l e at = absurd cc
 alone (k ∷ []) l e at = let q : k ≡ l = same_item (Some k) k l refl at in ap (λ x. x ∷ []) q
 alone (k ∷ m ∷ c) l e at = absurd (omega arith)
 
-module _ {I C : Type 0} (pairs : I → List Pair) where
+module _ {I C : Type 0} (pairs : I → List Posting) where
   -- a shorter entry is a unit, or in the index
   abbrev IsFound : Entries I C → List (Signed ℕ) → Signed ℕ → ℕ → Type 0
   IsFound n d l k = IsUnit n.bank d l ⊎ Contains (pairs n.first) (l.atom, k)
@@ -50,7 +50,7 @@ module _ {I C : Type 0} (pairs : I → List Pair) where
     last : (l : Signed ℕ) → slice_get c 0 ≡ Some l → length c < n.longest → IsFound m c l (suc (length es))
     flagged : n.has_empty ≡ true → m.has_empty ≡ true
     none : c ≡ [] → m.has_empty ≡ true
-    below : (p : Pair) → Contains (pairs m.first) p → p.1 ≤ length es + 1
+    below : (p : Posting) → Contains (pairs m.first) p → p.1 ≤ length es + 1
     empty : m.has_empty ≡ true → (n.has_empty ≡ true) ⊎ (c ≡ [])
 
   one_more : (n m : Entries I C) (es : List Item) (c : List (Signed ℕ)) (o : Origin) → AreFirsts pairs n es → IsOneMore n m es c → AreFirsts pairs m (es ++ (c, o) ∷ [])
@@ -102,8 +102,8 @@ module _ {I C : Type 0} (pairs : I → List Pair) where
       kept d k i (inl u) = inl u
       kept d k i (inr s) = inr ((adds (k.atom, i)).1 (inr s))
 
-      below : (p : Pair) → (p ≡ (l.atom, number)) ⊎ Contains (pairs n.first) p → p.1 ≤ length es + 1
-      below p (inl q) = let m : p.1 ≡ number = ap (λ (x : Pair). x.1) q in omega arith
+      below : (p : Posting) → (p ≡ (l.atom, number)) ⊎ Contains (pairs n.first) p → p.1 ≤ length es + 1
+      below p (inl q) = let m : p.1 ≡ number = ap (λ (x : Posting). x.1) q in omega arith
       below p (inr i) = let m : p.1 ≤ length es = h.below p i in omega arith
 
   -- units and the longest are not stored

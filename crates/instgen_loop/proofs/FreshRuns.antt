@@ -22,7 +22,7 @@ use Rattle.inst_machine.proofs.Prolonged.{replay_begins, left_at_first}
 use Rattle.engine_laws.specs.Pairs.{IsHeldBack}
 use Rattle.prop_logic.specs.Valuation.{IsHeld}
 use Rattle.term_bank.specs.Forest.{Forest, AreFormed, Extends, IsClauseOf, clause_at, tree_at}
-use Rattle.term_index.specs.Pairs.{Pair}
+use Rattle.term_index.specs.Pairs.{Posting}
 use Rattle.ground_abs.specs.Abstracts.{AreAtomsIn, AreNotesIn, atoms_in}
 use Rattle.instgen_select.specs.Queues.{numbers, Waiting}
 use Rattle.instgen_loop.specs.declared.event.Event.{Event}
@@ -46,7 +46,7 @@ use Rattle.instgen_loop.proofs.Bounded.{appended_bounded}
 abbrev pub with_given : {S I C : Type 0} → Run S I C → Forest → ℕ → List Bool → Run S I C
 with_given r g n v = record r { entries = record r.entries { bank = g; longest = n }; ground = record r.ground { first_values = v } }
 
-module _ {S I C : Type 0} (atoms : S → ℕ) (added : S → List (List (Signed ℕ))) (pairs : I → List Pair) where
+module _ {S I C : Type 0} (atoms : S → ℕ) (added : S → List (List (Signed ℕ))) (pairs : I → List Posting) where
   -- none of which matters
   pub fresh_interned : (r : Run S I C) (g : Forest) (n : ℕ) (v : List Bool) → AreFormed g → IsFresh atoms added pairs r → IsFresh atoms added pairs (with_given r g n v)
   fresh_interned r g n v formed h = record {

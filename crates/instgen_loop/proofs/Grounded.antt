@@ -24,7 +24,7 @@ use Rattle.prop_logic.specs.Valuation.{IsHeld}
 use Rattle.prop_logic.proofs.SearchLaws.{no_core}
 use Rattle.engine_laws.proofs.Bits.{literal_is_as_true}
 use Rattle.term_bank.specs.Forest.{Forest, tree_at}
-use Rattle.term_index.specs.Pairs.{Pair}
+use Rattle.term_index.specs.Pairs.{Posting}
 use Rattle.ground_abs.specs.Abstracts.{atoms_in}
 use Rattle.instgen_loop.specs.declared.state.Run.{Run}
 use Rattle.instgen_loop.specs.declared.queue.Partners.{Partners}
@@ -123,13 +123,13 @@ module _ {S I C : Type 0} (atoms : S → ℕ) (added : S → List (List (Signed 
   pub asked_grounded : IsSomeRun atoms added r → IsGrounded added asked
   asked_grounded (cs, budget, h) = run_grounded atoms added asked (cs, budget, asked_some cs budget h)
 
-  stored_in : (q : Pair) → IsStored r q → IsStored asked q
+  stored_in : (q : Posting) → IsStored r q → IsStored asked q
   stored_in q (a, b, c) = (a, b, record { item = c.item; place = c.place; literal = c.literal; item_at = c.item_at; place_at = c.place_at; literal_at = c.literal_at; atom = c.atom })
 
   signed_in : (n : ℕ) (b : Bool) → IsSigned r n b → IsSigned asked n b
   signed_in n b (l, c, e) = (l, record { item = c.item; place = c.place; item_at = c.item_at; place_at = c.place_at; literal_at = c.literal_at }, e)
 
-  pub asked_orderly : (pairs : I → List Pair) (fits : Forest → I → Type 0) (p : Partners I C) → IsOrderly atoms pairs fits r p → IsOrderly atoms pairs fits asked p
+  pub asked_orderly : (pairs : I → List Posting) (fits : Forest → I → Type 0) (p : Partners I C) → IsOrderly atoms pairs fits r p → IsOrderly atoms pairs fits asked p
   asked_orderly pairs fits p h = record {
     safe = record {
       entries = h.safe.entries;

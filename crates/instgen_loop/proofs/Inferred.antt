@@ -12,7 +12,7 @@ use Rattle.inst_logic.proofs.Formed.{canonical_is_formed}
 use Rattle.inst_logic.proofs.Numbering.{map_map}
 use Rattle.inst_logic.proofs.ShownLaws.{at_number_contains, at_number_append}
 use Rattle.inst_calculus.specs.Entries.{Entry, entry_clauses}
-use Rattle.inst_calculus.specs.Models.{Member}
+use Rattle.inst_calculus.specs.Models.{SelectedClause}
 use Rattle.inst_calculus.specs.Saturation.{IsCovered, variant}
 use Rattle.inst_calculus.proofs.Membership.{◌∈◌, contains_in, in_contains, in_all, all_in, in_map, in_right, passes}
 use Rattle.inst_calculus.proofs.Clauses.{length_instance}
@@ -33,7 +33,7 @@ use Rattle.inst_calculus.proofs.Distinct.{length_map}
 use Rattle.engine_laws.specs.Places.{IsPlaced}
 use Rattle.inst_calculus.specs.Abstraction.{AreGroundAtoms}
 use Rattle.inst_calculus.proofs.Items.{same_item}
-use Rattle.term_index.specs.Pairs.{Pair}
+use Rattle.term_index.specs.Pairs.{Posting}
 use Rattle.ground_abs.proofs.Images.{notes_stay}
 use Rattle.instgen_loop.specs.declared.state.Run.{Run}
 use Rattle.instgen_loop.specs.declared.entries.Entries.{Entries}
@@ -97,7 +97,7 @@ made_shorter f g es side c d h made =
     omega (arith, q, length_instance (numbered (order_of x)) x, length_instance (of_side h.unifier side) (clause_at f c), length_at g d, length_at f c)
 
 -- no entry has more literals than the longest
-pub premise_bounded : {I C : Type 0} {pairs : I → List Pair} {entries : Entries I C} {es : List Item} → AreFirsts pairs entries es → (n : ℕ) (e : Item) → at_number es n ≡ Some e → length e.0 ≤ entries.longest
+pub premise_bounded : {I C : Type 0} {pairs : I → List Posting} {entries : Entries I C} {es : List Item} → AreFirsts pairs entries es → (n : ℕ) (e : Item) → at_number es n ≡ Some e → length e.0 ≤ entries.longest
 premise_bounded h zero e at = absurd cc
 premise_bounded h (suc i) e at = h.bounded i e at
 
@@ -105,7 +105,7 @@ premise_bounded h (suc i) e at = h.bounded i e at
 pub item_later : {S I C : Type 0} (old new : Run S I C) (n : ℕ) (e : Item) → Goes old new → at_number (items old) n ≡ Some e → at_number (items new) n ≡ Some e
 item_later old new n e goes at = let (more, q) = goes.entries in ap (λ xs. at_number xs n) q ∙ at_number_append (items old) more n e at
 
-pub safe_grown : {S I C : Type 0} (atoms : S → ℕ) (pairs : I → List Pair) (fits : Forest → I → Type 0) (r : Run S I C) (g : Forest) → IsConsistent atoms pairs fits r → Extends r.entries.bank g → AreFormed g → fits g r.entries.first
+pub safe_grown : {S I C : Type 0} (atoms : S → ℕ) (pairs : I → List Posting) (fits : Forest → I → Type 0) (r : Run S I C) (g : Forest) → IsConsistent atoms pairs fits r → Extends r.entries.bank g → AreFormed g → fits g r.entries.first
     → IsConsistent atoms pairs fits (record r { entries = record r.entries { bank = g } })
 safe_grown atoms pairs fits r g h e formed stored = record {
   entries = entries_kept r.entries.bank g e formed (items r) h.entries;
@@ -124,7 +124,7 @@ safe_grown atoms pairs fits r g h e formed stored = record {
 }
 
 -- the same where bindings were made too
-pub safe_read : {S I C : Type 0} (atoms : S → ℕ) (pairs : I → List Pair) (fits : Forest → I → Type 0) (old new : Run S I C) → IsConsistent atoms pairs fits old → Reads old new → AreFormed new.entries.bank → fits new.entries.bank old.entries.first
+pub safe_read : {S I C : Type 0} (atoms : S → ℕ) (pairs : I → List Posting) (fits : Forest → I → Type 0) (old new : Run S I C) → IsConsistent atoms pairs fits old → Reads old new → AreFormed new.entries.bank → fits new.entries.bank old.entries.first
     → IsConsistent atoms pairs fits new
 safe_read atoms pairs fits old new h reads formed stored =
     let s = safe_grown atoms pairs fits old new.entries.bank h reads.bank formed stored in
@@ -195,7 +195,7 @@ covered_by_entry g es e c d i q = variant (clause_at g e.0) (in_contains (clause
 
 -- what covers the canonical form of an instance works the side
 pub side_by_cover : {S I C : Type 0} (old new : Run S I C) (s : Substitution) (from partner len : ℕ) (e : Item) (k : Forest) (d : List (Signed ℕ)) → at_number (items old) from ≡ Some e
-    → ((m : Member) → IsPlaced (entries_in new.entries.bank (items new)) new.selection.places from m → m.clause ≡ clause_at old.entries.bank e.0) → length (clause_at old.entries.bank e.0) ≡ len
+    → ((m : SelectedClause) → IsPlaced (entries_in new.entries.bank (items new)) new.selection.places from m → m.clause ≡ clause_at old.entries.bank e.0) → length (clause_at old.entries.bank e.0) ≡ len
     → clause_at k d ≡ canonical_form (instance s (clause_at old.entries.bank e.0)) → ((c : TreeClause) → length c ≡ len → IsCovered (clauses_in new.entries.bank (items new)) c (clause_at k d)) → IsSideWorked new s from partner
 side_by_cover old new s from partner len e k d at same long made covered m n l o p =
     let q = same m l in
@@ -221,7 +221,7 @@ pub covered_by_last : (f g : Forest) (es later : List Item) (d : List (Signed �
 covered_by_last f g es later d o c e h q = covered_by_entry g later (d, o) c (clause_at f d) (in_contains (d, o) later (transport (λ xs. (d, o) ∈ xs) (sym q) (in_right (d, o) es ((d, o) ∷ []) (inl refl)))) (clause_extends f g e d h)
 
 pub clause_of_placed : {S I C : Type 0} (old new : Run S I C) (from : ℕ) (e : Item) → Goes old new → AreEntries old.entries.bank (items old) → at_number (items old) from ≡ Some e
-    → (m : Member) → IsPlaced (entries_in new.entries.bank (items new)) new.selection.places from m → m.clause ≡ clause_at old.entries.bank e.0
+    → (m : SelectedClause) → IsPlaced (entries_in new.entries.bank (items new)) new.selection.places from m → m.clause ≡ clause_at old.entries.bank e.0
 clause_of_placed old new from e goes entries at m l =
     let (more, q) = goes.entries in
     let later : at_number (items new) from ≡ Some e = ap (λ xs. at_number xs from) q ∙ at_number_append (items old) more from e at in

@@ -27,7 +27,7 @@ use Rattle.cert_format.specs.Printable.{IsPrintableClause}
 use Rattle.engine_laws.specs.GroundLines.{ground_lines}
 use Rattle.engine_laws.proofs.Printed.{all_formed, axiom_printable}
 use Rattle.term_bank.specs.Forest.{Forest, AreFormed, Extends, IsClauseOf, clause_at, tree_at}
-use Rattle.term_index.specs.Pairs.{Pair}
+use Rattle.term_index.specs.Pairs.{Posting}
 use Rattle.clause_form.specs.Conclusions.{AreTermIds}
 use Rattle.ground_abs.specs.Abstracts.{atoms_in}
 use Rattle.ground_abs.proofs.Atoms.{atoms_stay}
@@ -69,7 +69,7 @@ whole_items f es h = in_all (λ (m : Member). IsWholeClause f m.clause) (map mem
       atoms = all_in (λ (x : Item). All (λ l. IsAtom (tree_at f l.atom)) x.0) es h.atoms e j;
     }))
 
-pub refuted_ending : {S I C : Type 0} (atoms : S → ℕ) (added : S → List (List (Signed ℕ))) (pairs : I → List Pair) (fits : Forest → I → Type 0) (r : Run S I C) (g : Given) (clauses : List TreeClause) (names : List (List ℕ))
+pub refuted_ending : {S I C : Type 0} (atoms : S → ℕ) (added : S → List (List (Signed ℕ))) (pairs : I → List Posting) (fits : Forest → I → Type 0) (r : Run S I C) (g : Given) (clauses : List TreeClause) (names : List (List ℕ))
     (budget : ℕ) (steps : List NumberedStep) → IsConsistent atoms pairs fits r → IsRunningFor atoms added r (with_axioms clauses) budget → Refutes (atoms r.ground.solver) (added r.ground.solver) [] [] steps
     → IsOfProblem r g clauses → All IsPrintableClause clauses → length names ≡ length clauses → All (λ n. IsTrue (is_readable_name n)) names → (x : RefutedRun) (log : Log) → x ≡ refuted_from r g steps → log ≡ r.log
     → IsEndingAfter clauses names budget (Refuted x) log

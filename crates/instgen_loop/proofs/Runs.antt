@@ -11,7 +11,7 @@ use Rattle.inst_logic.specs.Clauses.{TreeClause, instance, canonical_form}
 use Rattle.inst_logic.specs.Unifiers.{Sided, IsMostGeneral, IsProper}
 use Rattle.inst_logic.proofs.ShownLaws.{at_number_append, at_number_contains}
 use Rattle.inst_calculus.specs.Entries.{Entry, entry_clauses}
-use Rattle.inst_calculus.specs.Models.{Member}
+use Rattle.inst_calculus.specs.Models.{SelectedClause}
 use Rattle.inst_calculus.specs.Saturation.{IsCovered}
 use Rattle.inst_calculus.proofs.Membership.{◌∈◌, in_all, all_in, contains_in}
 use Rattle.inst_calculus.proofs.Distinct.{map_append, length_map}
@@ -236,7 +236,7 @@ none_before : (o : Option ℕ) (n : ℕ) → option_map (λ k. k - n) o ≡ None
 none_before None n e = refl
 none_before (Some k) n e = absurd cc
 
-pub placed_on : (es more : List Entry) (places : List ℕ) (n : ℕ) (m : Member) → IsPlaced es places n m → IsPlaced (es ++ more) places n m
+pub placed_on : (es more : List Entry) (places : List ℕ) (n : ℕ) (m : SelectedClause) → IsPlaced es places n m → IsPlaced (es ++ more) places n m
 placed_on es more places n m l = record {
   entry = l.entry;
   place = l.place;

@@ -13,7 +13,7 @@ use Rattle.engine_laws.specs.Pairs.{IsDecided}
 use Rattle.engine_laws.proofs.SelectedEntries.{all_covered}
 use Rattle.engine_laws.proofs.ValidRuns.{valid_when_closed}
 use Rattle.term_bank.specs.Forest.{clause_at}
-use Rattle.term_index.specs.Pairs.{Pair}
+use Rattle.term_index.specs.Pairs.{Posting}
 use Rattle.instgen_select.specs.Queues.{Waiting, numbers}
 use Rattle.cert_values.specs.Values.{origin_of}
 use Rattle.instgen_loop.specs.declared.state.Run.{Run}
@@ -24,7 +24,7 @@ use Rattle.instgen_loop.specs.Running.{event_in, entries_of, state_of, IsRunning
 use Rattle.instgen_loop.specs.Tended.{AreTended, indexed_of}
 
 -- where nothing waits each entry is indexed
-pub all_indexed : {S I C : Type 0} (pairs : I → List Pair) (r : Run S I C) (p : Partners I C) → AreTended pairs r p → r.queue.items ≡ [] → (i : ℕ) → i < length (entries_of r) → Contains (indexed_of pairs p) (suc i)
+pub all_indexed : {S I C : Type 0} (pairs : I → List Posting) (r : Run S I C) (p : Partners I C) → AreTended pairs r p → r.queue.items ≡ [] → (i : ℕ) → i < length (entries_of r) → Contains (indexed_of pairs p) (suc i)
 all_indexed pairs r p tended none i l =
     only (tended.queued i (let e : length (entries_of r) ≡ length (items r) = length_map (λ (x : Item). record { clause = clause_at r.entries.bank x.0; origin = origin_of x.1 }) (items r) in omega arith))
   where
@@ -32,7 +32,7 @@ all_indexed pairs r p tended none i l =
     only (inl a) = absurd (contains_in (suc i) [] (transport (λ (xs : List Waiting). Contains (numbers xs) (suc i)) none a))
     only (inr b) = b
 
-pub saturated_is_valid : {S I C : Type 0} (atoms : S → ℕ) (added : S → List (List (Signed ℕ))) (pairs : I → List Pair) (r : Run S I C) (p : Partners I C) (base : Base) (bot : Sym) (budget : ℕ) (v : List Tree)
+pub saturated_is_valid : {S I C : Type 0} (atoms : S → ℕ) (added : S → List (List (Signed ℕ))) (pairs : I → List Posting) (r : Run S I C) (p : Partners I C) (base : Base) (bot : Sym) (budget : ℕ) (v : List Tree)
     → AreFormedClauses (with_axioms base.inputs) → base.axioms ≡ equality_axioms base.inputs → IsRunning atoms added r bot (with_axioms base.inputs) budget v true → AreTended pairs r p
     → r.queue.items ≡ [] → length r.selection.places ≡ length (items r) → All (IsDecided (entries_of r) r.selection.places []) (held_of r) → IsValidSaturation (saturation_at r base)
 saturated_is_valid atoms added pairs r p base bot budget v formed axioms h tended none whole decided =

@@ -14,7 +14,7 @@ use Rattle.engine_laws.proofs.WorkedPairs.{pair_stays_worked}
 use Rattle.term_bank.specs.Forest.{Forest, AreIds, clause_at, tree_at}
 use Rattle.engine_laws.specs.Valuations.{AreFlips}
 use Rattle.ground_abs.specs.Abstracts.{atoms_in}
-use Rattle.term_index.specs.Pairs.{Pair}
+use Rattle.term_index.specs.Pairs.{Posting}
 use Rattle.cert_values.specs.Values.{origin_of}
 use Rattle.instgen_loop.specs.Logs.{Log, with_solve}
 use Rattle.instgen_loop.specs.declared.state.Run.{Run}
@@ -41,7 +41,7 @@ count_of literals es e = sym (length_map (λ (c : List (Signed ℕ)). length c) 
 
 -- Entries get places
 
-module _ {S I C : Type 0} (atoms : S → ℕ) (pairs : I → List Pair) (fits : Forest → I → Type 0) (r : Run S I C) (p : Partners I C) (bits : List Bool) (h : IsOrderly atoms pairs fits r p)
+module _ {S I C : Type 0} (atoms : S → ℕ) (pairs : I → List Posting) (fits : Forest → I → Type 0) (r : Run S I C) (p : Partners I C) (bits : List Bool) (h : IsOrderly atoms pairs fits r p)
     (s : Placing) (more : List ℕ) (grown : s.places ≡ r.selection.places ++ more) (lengths : map (λ (c : List (Signed ℕ)). length c) r.ground.literals ≡ map (λ (e : Item). length e.0) (items r))
     (whole : length s.places ≡ length r.ground.literals) (placed : (i : ℕ) → i < length s.places → IsTruePlace r.ground.literals s.places bits i) where
   within : length s.places ≤ length (items r)
@@ -59,7 +59,7 @@ module _ {S I C : Type 0} (atoms : S → ℕ) (pairs : I → List Pair) (fits : 
   kept : (n : ℕ) → n ≤ length r.selection.places → at_number s.places n ≡ at_number r.selection.places n
   kept n l = ap (λ ps. at_number ps n) grown ∙ at_number_front r.selection.places more n l
 
-  stored_stays : (q : Pair) → IsStored r q → IsStored (record r { selection = s }) q
+  stored_stays : (q : Posting) → IsStored r q → IsStored (record r { selection = s }) q
   stored_stays q (a, b, c) = (
     a,
     (let e : length s.places ≡ length r.selection.places + length more = ap length grown ∙ length-append r.selection.places more in omega (arith, b)),
@@ -116,7 +116,7 @@ module _ {S I C : Type 0} (atoms : S → ℕ) (pairs : I → List Pair) (fits : 
 
 -- Before the first entry chooses again
 
-module _ {S I C : Type 0} (atoms : S → ℕ) (pairs : I → List Pair) (fits : Forest → I → Type 0) (added : S → List (List (Signed ℕ))) (r : Run S I C) (p : Partners I C) (bits : List Bool) (changed : List ℕ)
+module _ {S I C : Type 0} (atoms : S → ℕ) (pairs : I → List Posting) (fits : Forest → I → Type 0) (added : S → List (List (Signed ℕ))) (r : Run S I C) (p : Partners I C) (bits : List Bool) (changed : List ℕ)
     (h : IsOrderly atoms pairs fits r p) (users : AreUsers r.ground.literals r.selection) (grounded : IsGrounded added r)
     (s : Placing) (places : s.places ≡ r.selection.places) (count : length r.ground.abstraction.ids ≤ length s.users) (kept : AreUsersKept r.selection.users s.users) where
   same : s ≡ record { places = r.selection.places; users = s.users }
@@ -170,11 +170,11 @@ module _ {S I C : Type 0} (r mid : Run S I C) (first last : Placing) (bits : Lis
 
 -- Neither the log nor the valuation matters
 
-module _ {S I C : Type 0} (atoms : S → ℕ) (pairs : I → List Pair) (fits : Forest → I → Type 0) (r : Run S I C) (p : Partners I C) (h : IsOrderly atoms pairs fits r p) (log : Log) (bits : List Bool) where
+module _ {S I C : Type 0} (atoms : S → ℕ) (pairs : I → List Posting) (fits : Forest → I → Type 0) (r : Run S I C) (p : Partners I C) (h : IsOrderly atoms pairs fits r p) (log : Log) (bits : List Bool) where
   abbrev accepted : Run S I C
   accepted = record r { log = log; ground = record r.ground { valuation = bits } }
 
-  stored_in : (q : Pair) → IsStored r q → IsStored accepted q
+  stored_in : (q : Posting) → IsStored r q → IsStored accepted q
   stored_in q (a, b, c) = (a, b, record { item = c.item; place = c.place; literal = c.literal; item_at = c.item_at; place_at = c.place_at; literal_at = c.literal_at; atom = c.atom })
 
   signed_in : (n : ℕ) (b : Bool) → IsSigned r n b → IsSigned accepted n b
@@ -232,7 +232,7 @@ no_flips atoms bits = record {
   all = λ n a e d. absurd (d refl);
 }
 
-module _ {S I C : Type 0} (atoms : S → ℕ) (pairs : I → List Pair) (fits : Forest → I → Type 0) (added : S → List (List (Signed ℕ))) (r : Run S I C) (p : Partners I C)
+module _ {S I C : Type 0} (atoms : S → ℕ) (pairs : I → List Posting) (fits : Forest → I → Type 0) (added : S → List (List (Signed ℕ))) (r : Run S I C) (p : Partners I C)
     (h : IsOrderly atoms pairs fits r p) (users : AreUsers r.ground.literals r.selection) (grounded : IsGrounded added r)
     (s : Placing) (places : s.places ≡ r.selection.places) (count : length r.ground.abstraction.ids ≤ length s.users) (kept : AreUsersKept r.selection.users s.users) where
   abbrev bits : List Bool

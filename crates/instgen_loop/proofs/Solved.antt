@@ -11,7 +11,7 @@ use Rattle.inst_logic.specs.Substitution.{subst_literal}
 use Rattle.inst_logic.specs.Clauses.{TreeClause}
 use Rattle.inst_calculus.specs.Abstraction.{grounding}
 use Rattle.inst_calculus.specs.Entries.{Entry, entry_clauses}
-use Rattle.inst_calculus.specs.Models.{Member}
+use Rattle.inst_calculus.specs.Models.{SelectedClause}
 use Rattle.inst_calculus.proofs.Membership.{all_in, contains_in}
 use Rattle.inst_calculus.proofs.Distinct.{map_append, length_map}
 use Rattle.inst_logic.proofs.ShownLaws.{at_number_contains}
@@ -53,7 +53,7 @@ from_map_number f xs (suc k) y e = slice_get_of_map f xs k y e
 -- a literal that is true by the bits is that of an entry whose abstraction is true
 place_is_true : (bot : Sym) (atoms : List Tree) (bits : List Bool) (w : List Tree) (literals : List (List (Signed ℕ))) (es : List Entry) (places : List ℕ) (i : ℕ) (b : Bool)
     → AreGroundAtoms atoms → IsValuationOf atoms bits w → AreAbstracted bot atoms literals (entry_clauses es) → IsTruePlace literals places bits i
-    → (m : Member) × IsPlaced es places (suc i) m × IsTrueIn bot (record { entries = es; valuation = w; has_solved = b }) m.selected
+    → (m : SelectedClause) × IsPlaced es places (suc i) m × IsTrueIn bot (record { entries = es; valuation = w; has_solved = b }) m.selected
 place_is_true bot atoms bits w literals es places i b different values same h =
     let (l, here, holds) = h.holds in
     let numbers : slice_get (map (map (named_literal atoms)) literals) i ≡ Some (map (named_literal atoms) h.clause) = slice_get_map (map (named_literal atoms)) literals i h.clause h.clause_at in

@@ -6,7 +6,7 @@ use Rattle.inst_logic.specs.Measure.{is_function_free}
 use Rattle.inst_logic.specs.WellFormed.{clause_is_formed, AreFormedClauses}
 use Rattle.inst_calculus.proofs.Membership.{contains_in, in_contains, all_in, in_all, all_pass}
 use Rattle.cert_format.specs.Printable.{IsPrintableClause}
-use Rattle.term_index.specs.Pairs.{Pair}
+use Rattle.term_index.specs.Pairs.{Posting}
 use Rattle.instgen_select.specs.Queues.{numbers}
 use Rattle.instgen_loop.specs.declared.outcome.Outcome.{Outcome}
 use Rattle.instgen_loop.specs.declared.outcome.Outcome.TheVariants.{Refuted, Saturated, OutOfBudget}
@@ -19,7 +19,7 @@ use Rattle.instgen_loop.proofs.Tending.{above, there, after_once}
 
 -- All entries wait, and none is indexed
 
-pub all_wait : {S I C : Type 0} (pairs : I → List Pair) (r : Run S I C) (p : Partners I C) → pairs p.positive ≡ [] → pairs p.negative ≡ [] → numbers r.queue.items ≡ after 0 (length (items r)) → AreTended pairs r p
+pub all_wait : {S I C : Type 0} (pairs : I → List Posting) (r : Run S I C) (p : Partners I C) → pairs p.positive ≡ [] → pairs p.negative ≡ [] → numbers r.queue.items ≡ after 0 (length (items r)) → AreTended pairs r p
 all_wait pairs r p positive negative waiting = record {
   once = transport AreOnce (sym waiting) (after_once 0 (length (items r)));
   positive = transport (All (λ n. 0 < n)) (sym waiting) (in_all (λ n. 0 < n) (after 0 (length (items r))) (λ n i. above 0 (length (items r)) n i));
@@ -29,7 +29,7 @@ all_wait pairs r p positive negative waiting = record {
 }
   where
     none : (n : ℕ) → ¬ Contains (indexed_of pairs p) n
-    none n i = contains_in n [] (transport (λ (qs : List Pair). Contains (map (λ (q : Pair). q.1) qs) n) (ap₂ (λ (xs ys : List Pair). xs ++ ys) positive negative) i)
+    none n i = contains_in n [] (transport (λ (qs : List Posting). Contains (map (λ (q : Posting). q.1) qs) n) (ap₂ (λ (xs ys : List Posting). xs ++ ys) positive negative) i)
 
 -- Printable clauses are well formed
 

@@ -20,7 +20,7 @@ use Rattle.cert_format.specs.Certificate.{selected_at}
 use Rattle.engine_laws.specs.Pairs.{Held, IsDecided, IsHeldBack}
 use Rattle.engine_laws.proofs.SelectedEntries.{open_is_among, still_is_open}
 use Rattle.term_bank.specs.Forest.{Forest}
-use Rattle.term_index.specs.Pairs.{Pair}
+use Rattle.term_index.specs.Pairs.{Posting}
 use Rattle.cert_values.specs.declared.certificate.Saturation.{Saturation}
 use Rattle.instgen_loop.specs.declared.ending.Ending.TheVariants.{OutOfBudget}
 use Rattle.instgen_loop.specs.declared.finish.SettledRun.{SettledRun}
@@ -99,7 +99,7 @@ has_functions clauses h = go (is_function_free clauses) refl
     go true e = let k = with_axioms_function_free clauses e in absurd cc
     go false e = refl
 
-module _ {S I C : Type 0} (atoms : S → ℕ) (added : S → List (List (Signed ℕ))) (pairs : I → List Pair) (fits : Forest → I → Type 0) (r : Run S I C) (p : Partners I C) (g : Given) (clauses : List TreeClause) (names : List (List ℕ))
+module _ {S I C : Type 0} (atoms : S → ℕ) (added : S → List (List (Signed ℕ))) (pairs : I → List Posting) (fits : Forest → I → Type 0) (r : Run S I C) (p : Partners I C) (g : Given) (clauses : List TreeClause) (names : List (List ℕ))
     (budget : ℕ) (v : List Tree) (rest : IsAtRest atoms pairs fits r p) (h : IsRunning atoms added r r.ground.abstraction.bot (with_axioms clauses) budget v true) (problem : IsOfProblem r g clauses)
     (wanted : ℕ) (open_ones : IsLeastOpen r wanted) where
   abbrev bot : Sym
@@ -170,7 +170,7 @@ module _ {S I C : Type 0} (atoms : S → ℕ) (added : S → List (List (Signed 
 
 -- from what the cycle leaves
 
-module _ {S I C : Type 0} (atoms : S → ℕ) (added : S → List (List (Signed ℕ))) (pairs : I → List Pair) (fits : Forest → I → Type 0) (r : Run S I C) (p : Partners I C) (g : Given) (clauses : List TreeClause) (names : List (List ℕ))
+module _ {S I C : Type 0} (atoms : S → ℕ) (added : S → List (List (Signed ℕ))) (pairs : I → List Posting) (fits : Forest → I → Type 0) (r : Run S I C) (p : Partners I C) (g : Given) (clauses : List TreeClause) (names : List (List ℕ))
     (budget wanted : ℕ) (rest : IsAtRest atoms pairs fits r p) (problem : IsOfProblem r g clauses) (open_ones : IsLeastOpen r wanted) where
   pub has_left : IsSolvedFor atoms added r (with_axioms clauses) budget → ¬ (r.left ≡ None)
   has_left (constant, v, h) = some_left atoms added pairs fits r p g clauses names budget v rest (own_constant atoms added r constant (with_axioms clauses) budget v h) problem wanted open_ones

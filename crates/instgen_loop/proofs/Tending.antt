@@ -5,14 +5,14 @@ use Rattle.inst_logic.specs.declared.signed.Signed.{Signed}
 use Rattle.inst_logic.specs.Tree.{Tree}
 use Rattle.inst_logic.specs.Derivations.{at_number}
 use Rattle.inst_calculus.specs.Entries.{Entry}
-use Rattle.inst_calculus.specs.Models.{Member}
+use Rattle.inst_calculus.specs.Models.{SelectedClause}
 use Rattle.inst_calculus.proofs.Membership.{◌∈◌, contains_in, in_contains, in_all, all_in, in_left, in_right, in_either, in_map, from_map}
 use Rattle.engine_laws.specs.Places.{IsPlaced}
 use Rattle.engine_laws.specs.Pairs.{IsWorked}
 use Rattle.inst_calculus.proofs.Items.{same_item}
 use Rattle.engine_laws.proofs.WorkedPairs.{one_more_is_worked}
 use Rattle.term_bank.specs.Forest.{Forest, tree_at, clause_at}
-use Rattle.term_index.specs.Pairs.{Pair, Adds}
+use Rattle.term_index.specs.Pairs.{Posting, Adds}
 use Rattle.instgen_select.specs.Passives.{Passive_list}
 use Rattle.instgen_select.specs.Queues.{numbers}
 use Rattle.cert_values.specs.Values.{origin_of}
@@ -28,7 +28,7 @@ use Rattle.instgen_loop.proofs.Opposites.{signed_stays}
 
 -- Same signs
 
-placed_sign : {S I C : Type 0} (r : Run S I C) (n : ℕ) (b : Bool) (m : Member) → IsSigned r n b → IsPlaced (entries_of r) r.selection.places n m → m.selected.positive ≡ b
+placed_sign : {S I C : Type 0} (r : Run S I C) (n : ℕ) (b : Bool) (m : SelectedClause) → IsSigned r n b → IsPlaced (entries_of r) r.selection.places n m → m.selected.positive ≡ b
 placed_sign r n b m (l, h, e) k =
     let f = r.entries.bank in
     let entry = at_number_map (λ (x : Item). record { clause = clause_at f x.0; origin = origin_of x.1 }) (items r) n h.item h.item_at in
@@ -47,14 +47,14 @@ same_sign_worked r i j b h k = (
 
 -- Entries of the indexes
 
-module _ {I C : Type 0} (pairs : I → List Pair) (p : Partners I C) where
-  pub indexed_pair : (n : ℕ) → Contains (indexed_of pairs p) n → (q : Pair) × (q.1 ≡ n) × (Contains (pairs p.positive) q ⊎ Contains (pairs p.negative) q)
+module _ {I C : Type 0} (pairs : I → List Posting) (p : Partners I C) where
+  pub indexed_pair : (n : ℕ) → Contains (indexed_of pairs p) n → (q : Posting) × (q.1 ≡ n) × (Contains (pairs p.positive) q ⊎ Contains (pairs p.negative) q)
   indexed_pair n h =
-      let (q, i, e) = from_map (λ (x : Pair). x.1) n (pairs p.positive ++ pairs p.negative) (contains_in n (indexed_of pairs p) h) in
+      let (q, i, e) = from_map (λ (x : Posting). x.1) n (pairs p.positive ++ pairs p.negative) (contains_in n (indexed_of pairs p) h) in
       (q, e, elim (in_either q (pairs p.positive) (pairs p.negative) i) [ inl a ↦ inl (in_contains q (pairs p.positive) a) | inr b ↦ inr (in_contains q (pairs p.negative) b) ])
 
-  pub indexed_by : (q : Pair) → Contains (pairs p.positive) q ⊎ Contains (pairs p.negative) q → Contains (indexed_of pairs p) q.1
-  indexed_by q h = in_contains q.1 (indexed_of pairs p) (in_map (λ (x : Pair). x.1) q (pairs p.positive ++ pairs p.negative)
+  pub indexed_by : (q : Posting) → Contains (pairs p.positive) q ⊎ Contains (pairs p.negative) q → Contains (indexed_of pairs p) q.1
+  indexed_by q h = in_contains q.1 (indexed_of pairs p) (in_map (λ (x : Posting). x.1) q (pairs p.positive ++ pairs p.negative)
       (elim h [ inl a ↦ in_left q (pairs p.positive) (pairs p.negative) (contains_in q (pairs p.positive) a) | inr b ↦ in_right q (pairs p.positive) (pairs p.negative) (contains_in q (pairs p.negative) b) ]))
 
 -- Queues without repeats
@@ -94,7 +94,7 @@ once_joined (x ∷ xs) k n h b = (
 )
 
 -- what was there, and what was taken out and is stored
-pub tended_on : {S I C : Type 0} (pairs : I → List Pair) (old new : Run S I C) (q : Passive_list) (p s : Partners I C) (n : ℕ) → IsTaken old.queue.items q.items n → Goes (record old { queue = q }) new
+pub tended_on : {S I C : Type 0} (pairs : I → List Posting) (old new : Run S I C) (q : Passive_list) (p s : Partners I C) (n : ℕ) → IsTaken old.queue.items q.items n → Goes (record old { queue = q }) new
     → AreEntries old.entries.bank (items old) → All (λ k. k ≤ length (items old)) (numbers old.queue.items) → ((m : ℕ) → Contains (indexed_of pairs p) m → m ≤ length (items old))
     → ((m : ℕ) → Contains (indexed_of pairs p) m → IsPairWorked new n m) → ((m : ℕ) → Contains (indexed_of pairs s) m ↔ ((m ≡ n) ⊎ Contains (indexed_of pairs p) m)) → AreTended pairs old p → AreTended pairs new s
 tended_on pairs old new q p s n picked goes entries waiting within now stored h = record {
@@ -161,22 +161,22 @@ tended_on pairs old new q p s n picked goes entries waiting within now stored h 
     go i l (inr m) = inl (into (suc i) (inr (there k count (suc i) (omega arith) (let e = total in omega arith))))
 
 -- what was worked with the other sign is worked with all
-pub worked_with_all : {S I C : Type 0} (pairs : I → List Pair) (old new : Run S I C) (p : Partners I C) (n : ℕ) (b : Bool) (same other : List Pair) → Goes old new → AreEntries old.entries.bank (items old)
-    → IsSigned old n b → ((q : Pair) → Contains same q → IsSigned old q.1 b) → ((q : Pair) → Contains (pairs p.positive) q ⊎ Contains (pairs p.negative) q → Contains same q ⊎ Contains other q)
-    → ((q : Pair) → Contains other q → IsPairWorked new n q.1) → (m : ℕ) → Contains (indexed_of pairs p) m → IsPairWorked new n m
+pub worked_with_all : {S I C : Type 0} (pairs : I → List Posting) (old new : Run S I C) (p : Partners I C) (n : ℕ) (b : Bool) (same other : List Posting) → Goes old new → AreEntries old.entries.bank (items old)
+    → IsSigned old n b → ((q : Posting) → Contains same q → IsSigned old q.1 b) → ((q : Posting) → Contains (pairs p.positive) q ⊎ Contains (pairs p.negative) q → Contains same q ⊎ Contains other q)
+    → ((q : Posting) → Contains other q → IsPairWorked new n q.1) → (m : ℕ) → Contains (indexed_of pairs p) m → IsPairWorked new n m
 worked_with_all pairs old new p n b same other goes entries sign signs parts worked m i =
     let (q, e, h) = indexed_pair pairs p m i in
     transport (IsPairWorked new n) e (elim (parts q h) [ inl a ↦ same_sign_worked new n q.1 b (signed_stays old new goes n b sign) (signed_stays old new goes q.1 b (signs q a)) | inr c ↦ worked q c ])
 
 -- the entries of the indexes have numbers of entries with places
-pub indexed_within : {S I C : Type 0} (pairs : I → List Pair) (fits : Forest → I → Type 0) (r : Run S I C) (p : Partners I C) → ArePartners pairs fits r p → (m : ℕ) → Contains (indexed_of pairs p) m → m ≤ length r.selection.places
+pub indexed_within : {S I C : Type 0} (pairs : I → List Posting) (fits : Forest → I → Type 0) (r : Run S I C) (p : Partners I C) → ArePartners pairs fits r p → (m : ℕ) → Contains (indexed_of pairs p) m → m ≤ length r.selection.places
 indexed_within pairs fits r p h m i =
     let (q, e, k) = indexed_pair pairs p m i in
     transport (λ x. x ≤ length r.selection.places) e (elim k [ inl a ↦ (h.positive_stored q a).1 | inr b ↦ (h.negative_stored q b).1 ])
 
 -- One more pair
 
-module _ {S I C : Type 0} (pairs : I → List Pair) (fits : Forest → I → Type 0) (r : Run S I C) (p s : Partners I C) (n a : ℕ) (within : (0 < n) × (n ≤ length r.selection.places)) (selected : IsSelectedAtom r n a) (partners : ArePartners pairs fits r p) where
+module _ {S I C : Type 0} (pairs : I → List Posting) (fits : Forest → I → Type 0) (r : Run S I C) (p s : Partners I C) (n a : ℕ) (within : (0 < n) × (n ≤ length r.selection.places)) (selected : IsSelectedAtom r n a) (partners : ArePartners pairs fits r p) where
   module _ (sign : IsSigned r n true) (fit : fits r.entries.bank s.positive) (adds : Adds (a, n) (pairs p.positive) (pairs s.positive)) (same : s.negative ≡ p.negative) where
     pub partners_positive : ArePartners pairs fits r s
     partners_positive = record {
@@ -184,7 +184,7 @@ module _ {S I C : Type 0} (pairs : I → List Pair) (fits : Forest → I → Typ
       negative_fits = transport (fits r.entries.bank) (sym same) partners.negative_fits;
       positive_stored = λ q i. elim ((adds q).0 i) [ inl e ↦ transport (IsStored r) (sym e) (within.0, within.1, selected) | inr j ↦ partners.positive_stored q j ];
       negative_stored = λ q i. partners.negative_stored q (transport (λ x. Contains (pairs x) q) same i);
-      positive_signed = λ q i. elim ((adds q).0 i) [ inl e ↦ transport (λ (x : Pair). IsSigned r x.1 true) (sym e) sign | inr j ↦ partners.positive_signed q j ];
+      positive_signed = λ q i. elim ((adds q).0 i) [ inl e ↦ transport (λ (x : Posting). IsSigned r x.1 true) (sym e) sign | inr j ↦ partners.positive_signed q j ];
       negative_signed = λ q i. partners.negative_signed q (transport (λ x. Contains (pairs x) q) same i);
     }
 
@@ -194,8 +194,8 @@ module _ {S I C : Type 0} (pairs : I → List Pair) (fits : Forest → I → Typ
       λ i. elim i [ inl e ↦ transport (Contains (indexed_of pairs s)) (sym e) (indexed_by pairs s (a, n) (inl ((adds (a, n)).1 (inl refl)))) | inr j ↦ old j ],
     )
       where
-        new : (q : Pair) → q.1 ≡ m → (q ≡ (a, n)) ⊎ Contains (pairs p.positive) q → (m ≡ n) ⊎ Contains (indexed_of pairs p) m
-        new q e (inl f) = inl (sym e ∙ ap (λ (x : Pair). x.1) f)
+        new : (q : Posting) → q.1 ≡ m → (q ≡ (a, n)) ⊎ Contains (pairs p.positive) q → (m ≡ n) ⊎ Contains (indexed_of pairs p) m
+        new q e (inl f) = inl (sym e ∙ ap (λ (x : Posting). x.1) f)
         new q e (inr b) = inr (transport (Contains (indexed_of pairs p)) e (indexed_by pairs p q (inl b)))
 
         old : Contains (indexed_of pairs p) m → Contains (indexed_of pairs s) m
@@ -210,7 +210,7 @@ module _ {S I C : Type 0} (pairs : I → List Pair) (fits : Forest → I → Typ
       positive_stored = λ q i. partners.positive_stored q (transport (λ x. Contains (pairs x) q) same i);
       negative_stored = λ q i. elim ((adds q).0 i) [ inl e ↦ transport (IsStored r) (sym e) (within.0, within.1, selected) | inr j ↦ partners.negative_stored q j ];
       positive_signed = λ q i. partners.positive_signed q (transport (λ x. Contains (pairs x) q) same i);
-      negative_signed = λ q i. elim ((adds q).0 i) [ inl e ↦ transport (λ (x : Pair). IsSigned r x.1 false) (sym e) sign | inr j ↦ partners.negative_signed q j ];
+      negative_signed = λ q i. elim ((adds q).0 i) [ inl e ↦ transport (λ (x : Posting). IsSigned r x.1 false) (sym e) sign | inr j ↦ partners.negative_signed q j ];
     }
 
     pub stored_negative : (m : ℕ) → Contains (indexed_of pairs s) m ↔ ((m ≡ n) ⊎ Contains (indexed_of pairs p) m)
@@ -219,8 +219,8 @@ module _ {S I C : Type 0} (pairs : I → List Pair) (fits : Forest → I → Typ
       λ i. elim i [ inl e ↦ transport (Contains (indexed_of pairs s)) (sym e) (indexed_by pairs s (a, n) (inr ((adds (a, n)).1 (inl refl)))) | inr j ↦ old j ],
     )
       where
-        new : (q : Pair) → q.1 ≡ m → (q ≡ (a, n)) ⊎ Contains (pairs p.negative) q → (m ≡ n) ⊎ Contains (indexed_of pairs p) m
-        new q e (inl f) = inl (sym e ∙ ap (λ (x : Pair). x.1) f)
+        new : (q : Posting) → q.1 ≡ m → (q ≡ (a, n)) ⊎ Contains (pairs p.negative) q → (m ≡ n) ⊎ Contains (indexed_of pairs p) m
+        new q e (inl f) = inl (sym e ∙ ap (λ (x : Posting). x.1) f)
         new q e (inr b) = inr (transport (Contains (indexed_of pairs p)) e (indexed_by pairs p q (inr b)))
 
         old : Contains (indexed_of pairs p) m → Contains (indexed_of pairs s) m

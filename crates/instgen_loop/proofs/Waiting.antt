@@ -3,7 +3,7 @@ use Rattle.std.proofs.Common.{◌≡◌, ◌⊎◌, inl, inr, map, ℕ, ◌+◌,
 use Rattle.inst_calculus.proofs.Membership.{◌∈◌, contains_in, in_contains, in_all, all_in, in_left, in_right, in_either}
 use Rattle.inst_calculus.proofs.Distinct.{map_append, length_map}
 use Rattle.term_bank.specs.Forest.{Forest, Extends}
-use Rattle.term_index.specs.Pairs.{Pair}
+use Rattle.term_index.specs.Pairs.{Posting}
 use Rattle.instgen_select.specs.Queues.{Waiting, numbers, IsTakenOut}
 use Rattle.instgen_select.specs.Passives.{Passive_list, IsLetGo}
 use Rattle.instgen_loop.specs.declared.state.Run.{Run}
@@ -86,7 +86,7 @@ module _ (old new : List Waiting) (n : ℕ) (h : IsTaken old new n) where
       back : m ∈ (h.front ++ h.back) → Contains (numbers new) m
       back j = in_contains m (numbers new) (transport (λ xs. m ∈ xs) (sym h.after) j)
 
-module _ {S I C : Type 0} (pairs : I → List Pair) (fits : Forest → I → Type 0) (r : Run S I C) where
+module _ {S I C : Type 0} (pairs : I → List Posting) (fits : Forest → I → Type 0) (r : Run S I C) where
   module _ (q : Passive_list) (n : ℕ) (picked : IsTaken r.queue.items q.items n) where
     fewer : (P : ℕ → Type 0) → All P (numbers r.queue.items) → All P (numbers q.items)
     fewer P h = in_all P (numbers q.items) (λ m i. all_in P (numbers r.queue.items) h m (contains_in m (numbers r.queue.items) (kept r.queue.items q.items n picked m (in_contains m (numbers q.items) i))))
@@ -130,7 +130,7 @@ module _ {S I C : Type 0} (pairs : I → List Pair) (fits : Forest → I → Typ
         sign : (m : ℕ) (b : Bool) → IsSigned r m b → IsSigned (record r { queue = q }) m b
         sign m b (l, k, e) = (l, record { item = k.item; place = k.place; item_at = k.item_at; place_at = k.place_at; literal_at = k.literal_at }, e)
 
-        same : (x : Pair) → IsStored r x → IsStored (record r { queue = q }) x
+        same : (x : Posting) → IsStored r x → IsStored (record r { queue = q }) x
         same x (a, b, k) = (a, b, record { item = k.item; place = k.place; literal = k.literal; item_at = k.item_at; place_at = k.place_at; literal_at = k.literal_at; atom = k.atom })
 
     -- of the same entries
@@ -172,7 +172,7 @@ module _ {S I C : Type 0} (pairs : I → List Pair) (fits : Forest → I → Typ
     negative_signed = λ x i. signed_stays r new goes x.1 false (h.negative_signed x i);
   }
     where
-      stays : (x : Pair) → IsStored r x → IsStored new x
+      stays : (x : Posting) → IsStored r x → IsStored new x
       stays x (a, b, k) = (a, transport (λ (ps : List ℕ). x.1 ≤ length ps) (sym (same_places goes.selection)) b, selected_stays r new goes entries x.1 x.0 k)
 
   -- where no entry was appended nothing was queued

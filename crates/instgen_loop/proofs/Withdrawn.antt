@@ -15,7 +15,7 @@ use Rattle.engine_laws.proofs.WorkedPairs.{pair_stays_worked}
 use Rattle.term_bank.specs.Forest.{Forest, clause_at}
 use Rattle.cert_values.specs.Values.{origin_of}
 use Rattle.inst_calculus.proofs.Distinct.{length_map}
-use Rattle.term_index.specs.Pairs.{Pair, Removes}
+use Rattle.term_index.specs.Pairs.{Posting, Removes}
 use Rattle.instgen_select.specs.Passives.{Passive_list}
 use Rattle.instgen_select.specs.Queues.{numbers}
 use Rattle.instgen_loop.specs.declared.state.Run.{Run}
@@ -54,33 +54,33 @@ one_sign r n b c (k, g, e) (l, h, f) = sym e ∙ ap (λ (x : Signed ℕ). x.posi
 true_is_not_false : true ≡ false → ⊥
 true_is_not_false e = cc
 
-same_pair : (p q : Pair) → p.0 ≡ q.0 → p.1 ≡ q.1 → p ≡ q
+same_pair : (p q : Posting) → p.0 ≡ q.0 → p.1 ≡ q.1 → p ≡ q
 same_pair p q e f = λ i. (e i, f i)
 
 -- The pair of an entry is removed
 
-module _ {S I C : Type 0} (pairs : I → List Pair) (fits : Forest → I → Type 0) (r : Run S I C) (p s : Partners I C) (n a : ℕ) (selected : IsSelectedAtom r n a) (partners : ArePartners pairs fits r p) where
+module _ {S I C : Type 0} (pairs : I → List Posting) (fits : Forest → I → Type 0) (r : Run S I C) (p s : Partners I C) (n a : ℕ) (selected : IsSelectedAtom r n a) (partners : ArePartners pairs fits r p) where
   -- the pair of n stands in the index of its sign alone, with its atom
-  abbrev IsOwn : Pair → Type 0
+  abbrev IsOwn : Posting → Type 0
   IsOwn q = (q.1 ≡ n) → q ≡ (a, n)
 
-  own_positive : (q : Pair) → Contains (pairs p.positive) q → IsOwn q
+  own_positive : (q : Posting) → Contains (pairs p.positive) q → IsOwn q
   own_positive q i e = same_pair q (a, n) (one_atom r n q.0 a (transport (λ m. IsSelectedAtom r m q.0) e (partners.positive_stored q i).2) selected) e
 
-  own_negative : (q : Pair) → Contains (pairs p.negative) q → IsOwn q
+  own_negative : (q : Posting) → Contains (pairs p.negative) q → IsOwn q
   own_negative q i e = same_pair q (a, n) (one_atom r n q.0 a (transport (λ m. IsSelectedAtom r m q.0) e (partners.negative_stored q i).2) selected) e
 
   module _ (sign : IsSigned r n true) (same : s.negative ≡ p.negative) where
-    not_negative : (q : Pair) → Contains (pairs p.negative) q → ¬ (q.1 ≡ n)
+    not_negative : (q : Posting) → Contains (pairs p.negative) q → ¬ (q.1 ≡ n)
     not_negative q i e = true_is_not_false (one_sign r n true false sign (transport (λ m. IsSigned r m false) e (partners.negative_signed q i)))
 
-    back_negative : (q : Pair) → Contains (pairs s.negative) q → Contains (pairs p.negative) q
+    back_negative : (q : Posting) → Contains (pairs s.negative) q → Contains (pairs p.negative) q
     back_negative q i = transport (λ x. Contains (pairs x) q) same i
 
     pub positive_there : Contains (indexed_of pairs p) n → Contains (pairs p.positive) (a, n)
     positive_there i = let (q, e, k) = indexed_pair pairs p n i in elim k [ inl b ↦ transport (Contains (pairs p.positive)) (own_positive q b e) b | inr c ↦ absurd (not_negative q c e) ]
 
-    pub removed_positive : (fit : fits r.entries.bank s.positive) → ((q : Pair) → Contains (pairs s.positive) q ↔ (Contains (pairs p.positive) q × ¬ (q ≡ (a, n)))) → ArePartners pairs fits r s
+    pub removed_positive : (fit : fits r.entries.bank s.positive) → ((q : Posting) → Contains (pairs s.positive) q ↔ (Contains (pairs p.positive) q × ¬ (q ≡ (a, n)))) → ArePartners pairs fits r s
     removed_positive fit left = record {
       positive_fits = fit;
       negative_fits = transport (fits r.entries.bank) (sym same) partners.negative_fits;
@@ -90,29 +90,29 @@ module _ {S I C : Type 0} (pairs : I → List Pair) (fits : Forest → I → Typ
       negative_signed = λ q i. partners.negative_signed q (back_negative q i);
     }
 
-    pub stays_positive : ((q : Pair) → Contains (pairs s.positive) q ↔ (Contains (pairs p.positive) q × ¬ (q ≡ (a, n)))) → (m : ℕ) → Contains (indexed_of pairs s) m ↔ (Contains (indexed_of pairs p) m × ¬ (m ≡ n))
+    pub stays_positive : ((q : Posting) → Contains (pairs s.positive) q ↔ (Contains (pairs p.positive) q × ¬ (q ≡ (a, n)))) → (m : ℕ) → Contains (indexed_of pairs s) m ↔ (Contains (indexed_of pairs p) m × ¬ (m ≡ n))
     stays_positive left m = (
       λ i. let (q, e, k) = indexed_pair pairs s m i in elim k [
         | inl b ↦ (transport (Contains (indexed_of pairs p)) e (indexed_by pairs p q (inl ((left q).0 b).0)), λ f. ((left q).0 b).1 (own_positive q ((left q).0 b).0 (e ∙ f)))
         | inr c ↦ (transport (Contains (indexed_of pairs p)) e (indexed_by pairs p q (inr (back_negative q c))), λ f. not_negative q (back_negative q c) (e ∙ f))
       ],
       λ (i, d). let (q, e, k) = indexed_pair pairs p m i in transport (Contains (indexed_of pairs s)) e (indexed_by pairs s q (elim k [
-        | inl b ↦ inl ((left q).1 (b, λ f. d (sym e ∙ ap (λ (x : Pair). x.1) f)))
+        | inl b ↦ inl ((left q).1 (b, λ f. d (sym e ∙ ap (λ (x : Posting). x.1) f)))
         | inr c ↦ inr (transport (λ x. Contains (pairs x) q) (sym same) c)
       ])),
     )
 
   module _ (sign : IsSigned r n false) (same : s.positive ≡ p.positive) where
-    not_positive : (q : Pair) → Contains (pairs p.positive) q → ¬ (q.1 ≡ n)
+    not_positive : (q : Posting) → Contains (pairs p.positive) q → ¬ (q.1 ≡ n)
     not_positive q i e = true_is_not_false (one_sign r n true false (transport (λ m. IsSigned r m true) e (partners.positive_signed q i)) sign)
 
-    back_positive : (q : Pair) → Contains (pairs s.positive) q → Contains (pairs p.positive) q
+    back_positive : (q : Posting) → Contains (pairs s.positive) q → Contains (pairs p.positive) q
     back_positive q i = transport (λ x. Contains (pairs x) q) same i
 
     pub negative_there : Contains (indexed_of pairs p) n → Contains (pairs p.negative) (a, n)
     negative_there i = let (q, e, k) = indexed_pair pairs p n i in elim k [ inl b ↦ absurd (not_positive q b e) | inr c ↦ transport (Contains (pairs p.negative)) (own_negative q c e) c ]
 
-    pub removed_negative : (fit : fits r.entries.bank s.negative) → ((q : Pair) → Contains (pairs s.negative) q ↔ (Contains (pairs p.negative) q × ¬ (q ≡ (a, n)))) → ArePartners pairs fits r s
+    pub removed_negative : (fit : fits r.entries.bank s.negative) → ((q : Posting) → Contains (pairs s.negative) q ↔ (Contains (pairs p.negative) q × ¬ (q ≡ (a, n)))) → ArePartners pairs fits r s
     removed_negative fit left = record {
       positive_fits = transport (fits r.entries.bank) (sym same) partners.positive_fits;
       negative_fits = fit;
@@ -122,7 +122,7 @@ module _ {S I C : Type 0} (pairs : I → List Pair) (fits : Forest → I → Typ
       negative_signed = λ q i. partners.negative_signed q ((left q).0 i).0;
     }
 
-    pub stays_negative : ((q : Pair) → Contains (pairs s.negative) q ↔ (Contains (pairs p.negative) q × ¬ (q ≡ (a, n)))) → (m : ℕ) → Contains (indexed_of pairs s) m ↔ (Contains (indexed_of pairs p) m × ¬ (m ≡ n))
+    pub stays_negative : ((q : Posting) → Contains (pairs s.negative) q ↔ (Contains (pairs p.negative) q × ¬ (q ≡ (a, n)))) → (m : ℕ) → Contains (indexed_of pairs s) m ↔ (Contains (indexed_of pairs p) m × ¬ (m ≡ n))
     stays_negative left m = (
       λ i. let (q, e, k) = indexed_pair pairs s m i in elim k [
         | inl b ↦ (transport (Contains (indexed_of pairs p)) e (indexed_by pairs p q (inl (back_positive q b))), λ f. not_positive q (back_positive q b) (e ∙ f))
@@ -130,26 +130,26 @@ module _ {S I C : Type 0} (pairs : I → List Pair) (fits : Forest → I → Typ
       ],
       λ (i, d). let (q, e, k) = indexed_pair pairs p m i in transport (Contains (indexed_of pairs s)) e (indexed_by pairs s q (elim k [
         | inl b ↦ inl (transport (λ x. Contains (pairs x) q) (sym same) b)
-        | inr c ↦ inr ((left q).1 (c, λ f. d (sym e ∙ ap (λ (x : Pair). x.1) f)))
+        | inr c ↦ inr ((left q).1 (c, λ f. d (sym e ∙ ap (λ (x : Posting). x.1) f)))
       ])),
     )
 
 -- what is left where the pair was not there
-pub none_removed : (ps qs : List Pair) (x : Pair) → (¬ Contains ps x) → qs ≡ ps → (q : Pair) → Contains qs q ↔ (Contains ps q × ¬ (q ≡ x))
+pub none_removed : (ps qs : List Posting) (x : Posting) → (¬ Contains ps x) → qs ≡ ps → (q : Posting) → Contains qs q ↔ (Contains ps q × ¬ (q ≡ x))
 none_removed ps qs x n e q = (λ i. let j = transport (λ zs. Contains zs q) e i in (j, λ f. n (transport (Contains ps) f j)), λ (i, d). transport (λ zs. Contains zs q) (sym e) i)
 
-pub what_is_left : {E : Type 0} (res : Result Bool E) (ps qs : List Pair) (x : Pair) → IfOk res (λ r. r ≡ true → Removes x ps qs) → IfOk res (λ r. r ≡ false → (¬ Contains ps x) × (qs ≡ ps))
-    → OnOk res ((q : Pair) → Contains qs q ↔ (Contains ps q × ¬ (q ≡ x)))
+pub what_is_left : {E : Type 0} (res : Result Bool E) (ps qs : List Posting) (x : Posting) → IfOk res (λ r. r ≡ true → Removes x ps qs) → IfOk res (λ r. r ≡ false → (¬ Contains ps x) × (qs ≡ ps))
+    → OnOk res ((q : Posting) → Contains qs q ↔ (Contains ps q × ¬ (q ≡ x)))
 what_is_left (Ok true) ps qs x there absent = (there refl).1
 what_is_left (Ok false) ps qs x there absent = let (n, e) = absent refl in none_removed ps qs x n e
 what_is_left (Err e) ps qs x there absent = tt
 
 -- whether the entry was there
-pub was_there : {E : Type 0} (res : Result Bool E) (ps qs : List Pair) (x : Pair) (Q : Type 0) → IfOk res (λ r. r ≡ true → Removes x ps qs) → (Contains ps x → Q) → IfOk res (λ r. r ≡ true → Q)
+pub was_there : {E : Type 0} (res : Result Bool E) (ps qs : List Posting) (x : Posting) (Q : Type 0) → IfOk res (λ r. r ≡ true → Removes x ps qs) → (Contains ps x → Q) → IfOk res (λ r. r ≡ true → Q)
 was_there (Ok r) ps qs x Q there f = λ e. f (there e).0
 was_there (Err e) ps qs x Q there f = tt
 
-pub is_there : {E : Type 0} (res : Result Bool E) (ps qs : List Pair) (x : Pair) (Q : Type 0) → IfOk res (λ r. r ≡ false → (¬ Contains ps x) × (qs ≡ ps)) → (Q → Contains ps x) → IfOk res (λ r. Q → r ≡ true)
+pub is_there : {E : Type 0} (res : Result Bool E) (ps qs : List Posting) (x : Posting) (Q : Type 0) → IfOk res (λ r. r ≡ false → (¬ Contains ps x) × (qs ≡ ps)) → (Q → Contains ps x) → IfOk res (λ r. Q → r ≡ true)
 is_there (Ok true) ps qs x Q absent f = λ q. refl
 is_there (Ok false) ps qs x Q absent f = λ q. absurd ((absent refl).0 (f q))
 is_there (Err e) ps qs x Q absent f = tt
@@ -170,7 +170,7 @@ once_end (x ∷ xs) n h d = (
   once_end xs n h.1 (λ i. d (in_contains n (x ∷ xs) (inr (contains_in n xs i)))),
 )
 
-module _ {S I C : Type 0} (atoms : S → ℕ) (pairs : I → List Pair) (fits : Forest → I → Type 0) (r : Run S I C) (p s : Partners I C) (n : ℕ) (h : IsOrderly atoms pairs fits r p)
+module _ {S I C : Type 0} (atoms : S → ℕ) (pairs : I → List Posting) (fits : Forest → I → Type 0) (r : Run S I C) (p s : Partners I C) (n : ℕ) (h : IsOrderly atoms pairs fits r p)
     (within : (0 < n) × (n ≤ length r.selection.places)) (partners : ArePartners pairs fits r s)
     (stays : (m : ℕ) → Contains (indexed_of pairs s) m ↔ (Contains (indexed_of pairs p) m × ¬ (m ≡ n))) where
   worked : AreWorked (entries_of r) r.selection.places (held_of r) (indexed_of pairs s)
@@ -253,7 +253,7 @@ module _ {S I C : Type 0} (atoms : S → ℕ) (pairs : I → List Pair) (fits : 
     }
 
 -- whether it was there or not
-pub withdrawn : {S I C : Type 0} (atoms : S → ℕ) (pairs : I → List Pair) (fits : Forest → I → Type 0) (r new : Run S I C) (p s : Partners I C) (n : ℕ) (removed : Bool) → IsOrderly atoms pairs fits r p
+pub withdrawn : {S I C : Type 0} (atoms : S → ℕ) (pairs : I → List Posting) (fits : Forest → I → Type 0) (r new : Run S I C) (p s : Partners I C) (n : ℕ) (removed : Bool) → IsOrderly atoms pairs fits r p
     → (0 < n) × (n ≤ length r.selection.places) → ArePartners pairs fits r s → ((m : ℕ) → Contains (indexed_of pairs s) m ↔ (Contains (indexed_of pairs p) m × ¬ (m ≡ n)))
     → (removed ≡ true → Contains (indexed_of pairs p) n) → (Contains (indexed_of pairs p) n → removed ≡ true) → Requeues r new n removed → IsOrderly atoms pairs fits new s
 withdrawn atoms pairs fits r new p s n true h within partners stays there absent (e, put) =
@@ -295,7 +295,7 @@ old_place r bits (suc i) old clause selectable placed within p q =
     let k = place_positive h.item.0 h.place h.literal h.literal_at in
     (transport (λ x. 0 < x) same k.0, transport (λ x. x ≤ length clause) same (transport (λ m. h.place ≤ m) (sym long) k.1))
 
-module _ {S I C : Type 0} (atoms : S → ℕ) (pairs : I → List Pair) (fits : Forest → I → Type 0) (r : Run S I C) (p : Partners I C) (bits : List Bool) (n place atom : ℕ) (clause : List (Signed ℕ))
+module _ {S I C : Type 0} (atoms : S → ℕ) (pairs : I → List Posting) (fits : Forest → I → Type 0) (r : Run S I C) (p : Partners I C) (bits : List Bool) (n place atom : ℕ) (clause : List (Signed ℕ))
     (h : IsOrderly atoms pairs fits r p) (selectable : AreSelectable r bits) (within : (0 < n) × (n ≤ length r.selection.places)) (absent : ¬ Contains (indexed_of pairs p) n)
     (numbered_at : at_number r.ground.literals n ≡ Some clause) (choice : IsChoice clause bits place atom) (users : List (List ℕ)) where
   abbrev later : Placing
@@ -315,14 +315,14 @@ module _ {S I C : Type 0} (atoms : S → ℕ) (pairs : I → List Pair) (fits : 
           record { item = g.item; place = place; literal = l; item_at = g.item_at; place_at = ap (slice_get (set r.selection.places k place)) q ∙ slice_get_set r.selection.places k place w; literal_at = at }
       go (no d) g = record { item = g.item; place = g.place; literal = g.literal; item_at = g.item_at; place_at = slice_get_set_other r.selection.places k i place d ∙ g.place_at; literal_at = g.literal_at }
 
-  selected_stays : (q : Pair) → Contains (indexed_of pairs p) q.1 → IsStored r q → IsStored (record r { selection = later }) q
+  selected_stays : (q : Posting) → Contains (indexed_of pairs p) q.1 → IsStored r q → IsStored (record r { selection = later }) q
   selected_stays q i (a, b, c) = (
     a,
     transport (λ m. q.1 ≤ m) (sym (length-set r.selection.places (n - 1) place)) b,
     record { item = c.item; place = c.place; literal = c.literal; item_at = c.item_at; place_at = kept q.1 (λ e. absent (transport (Contains (indexed_of pairs p)) e i)) ∙ c.place_at; literal_at = c.literal_at; atom = c.atom },
   )
 
-  signed_stays : (q : Pair) (b : Bool) → Contains (indexed_of pairs p) q.1 → IsSigned r q.1 b → IsSigned (record r { selection = later }) q.1 b
+  signed_stays : (q : Posting) (b : Bool) → Contains (indexed_of pairs p) q.1 → IsSigned r q.1 b → IsSigned (record r { selection = later }) q.1 b
   signed_stays q b i (l, c, e) = (l, record { item = c.item; place = c.place; item_at = c.item_at; place_at = kept q.1 (λ e. absent (transport (Contains (indexed_of pairs p)) e i)) ∙ c.place_at; literal_at = c.literal_at }, e)
 
   append_none : {X : Type 0} (xs : List X) → xs ++ [] ≡ xs
@@ -370,7 +370,7 @@ module _ {S I C : Type 0} (atoms : S → ℕ) (pairs : I → List Pair) (fits : 
           let w : length r.selection.places ≤ length (items r) = h.safe.within in
           transport (λ x. x ≤ length (entries_of r)) e (omega arith)
 
-module _ {S I C : Type 0} (atoms : S → ℕ) (pairs : I → List Pair) (fits : Forest → I → Type 0) (old mid : Run S I C) (p : Partners I C) (rest : mid ≡ record old { queue = mid.queue })
+module _ {S I C : Type 0} (atoms : S → ℕ) (pairs : I → List Posting) (fits : Forest → I → Type 0) (old mid : Run S I C) (p : Partners I C) (rest : mid ≡ record old { queue = mid.queue })
     (bits : List Bool) (n place atom : ℕ) (clause : List (Signed ℕ)) (selectable : AreSelectable old bits) (within : (0 < n) × (n ≤ length old.selection.places))
     (numbered_at : at_number old.ground.literals n ≡ Some clause) (choice : IsChoice clause bits place atom)
     (s : Placing) (made : s ≡ record { places = set mid.selection.places (n - 1) place; users = set mid.selection.users atom (get_or mid.selection.users atom [] ++ n ∷ []) }) where
@@ -410,8 +410,8 @@ module _ {S I C : Type 0} (atoms : S → ℕ) (pairs : I → List Pair) (fits : 
 
 -- Lists of users change
 
-module _ {S I C : Type 0} (atoms : S → ℕ) (pairs : I → List Pair) (fits : Forest → I → Type 0) (r : Run S I C) (p : Partners I C) (h : IsOrderly atoms pairs fits r p) (us : List (List ℕ)) where
-  stored_with : (q : Pair) → IsStored r q → IsStored (record r { selection = record { places = r.selection.places; users = us } }) q
+module _ {S I C : Type 0} (atoms : S → ℕ) (pairs : I → List Posting) (fits : Forest → I → Type 0) (r : Run S I C) (p : Partners I C) (h : IsOrderly atoms pairs fits r p) (us : List (List ℕ)) where
+  stored_with : (q : Posting) → IsStored r q → IsStored (record r { selection = record { places = r.selection.places; users = us } }) q
   stored_with q (a, b, c) = (a, b, record { item = c.item; place = c.place; literal = c.literal; item_at = c.item_at; place_at = c.place_at; literal_at = c.literal_at; atom = c.atom })
 
   signed_with : (n : ℕ) (b : Bool) → IsSigned r n b → IsSigned (record r { selection = record { places = r.selection.places; users = us } }) n b

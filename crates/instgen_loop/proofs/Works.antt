@@ -10,7 +10,7 @@ use Rattle.inst_logic.specs.WellFormed.{IsAtom}
 use Rattle.inst_logic.proofs.ShownLaws.{at_number_contains}
 use Rattle.inst_logic.specs.Unifiers.{Sided, IsUnifier}
 use Rattle.inst_calculus.specs.Entries.{Entry, entry_clauses}
-use Rattle.inst_calculus.specs.Models.{Member}
+use Rattle.inst_calculus.specs.Models.{SelectedClause}
 use Rattle.inst_calculus.specs.Saturation.{IsCovered}
 use Rattle.inst_calculus.proofs.Membership.{◌∈◌, contains_in, in_contains, in_all, all_in, in_left}
 use Rattle.inst_calculus.proofs.Distinct.{map_append, length_map}
@@ -22,7 +22,7 @@ use Rattle.engine_laws.proofs.Lists.{at_number_front}
 use Rattle.inst_calculus.proofs.Items.{same_item, at_number_within}
 use Rattle.engine_laws.proofs.WorkedPairs.{placed_before, clauses_stay, pair_stays_worked}
 use Rattle.term_bank.specs.Forest.{Forest, IsClauseOf, clause_at, tree_at}
-use Rattle.term_index.specs.Pairs.{Pair, Gives, IsOver}
+use Rattle.term_index.specs.Pairs.{Posting, Gives, IsOver}
 use Rattle.instgen_loop.specs.declared.state.Run.{Run}
 use Rattle.instgen_loop.specs.declared.premises.Premises.{Premises}
 use Rattle.instgen_loop.specs.Clauses.{Item, AreEntries, entries_in}
@@ -45,7 +45,7 @@ at_number_map f xs zero x e = absurd cc
 at_number_map f xs (suc k) x e = slice_get_map f xs k x e
 
 -- what is placed by its ids
-pub placed_atom : (f : Forest) (es : List Item) (places : List ℕ) (n : ℕ) (m : Member) (e : Item) (p : ℕ) (l : Signed ℕ) → at_number es n ≡ Some e → at_number places n ≡ Some p → at_number e.0 p ≡ Some l
+pub placed_atom : (f : Forest) (es : List Item) (places : List ℕ) (n : ℕ) (m : SelectedClause) (e : Item) (p : ℕ) (l : Signed ℕ) → at_number es n ≡ Some e → at_number places n ≡ Some p → at_number e.0 p ≡ Some l
     → IsPlaced (entries_in f es) places n m → m.selected.atom ≡ tree_at f l.atom
 placed_atom f es places n m e p l at here lit k =
     let entry = at_number_map (λ (x : Item). record { clause = clause_at f x.0; origin = origin_of x.1 }) es n e at in
@@ -55,7 +55,7 @@ placed_atom f es places n m e p l at here lit k =
     ap (λ (x : Signed Tree). x.atom) (same_item (at_number k.entry.clause k.place) m.selected (record { positive = l.positive; atom = tree_at f l.atom }) k.selected
     (ap (λ (x : Entry). at_number x.clause k.place) same ∙ ap (at_number (clause_at f e.0)) q ∙ literal))
 
-pub placed_tree : {S I C : Type 0} (r : Run S I C) (n : ℕ) (t : Tree) (m : Member) → IsSelectedTree r n t → IsPlaced (entries_in r.entries.bank (items r)) r.selection.places n m → m.selected.atom ≡ t
+pub placed_tree : {S I C : Type 0} (r : Run S I C) (n : ℕ) (t : Tree) (m : SelectedClause) → IsSelectedTree r n t → IsPlaced (entries_in r.entries.bank (items r)) r.selection.places n m → m.selected.atom ≡ t
 placed_tree r n t m (a, h, e) k =
     placed_atom r.entries.bank (items r) r.selection.places n m h.item h.place h.literal h.item_at h.place_at h.literal_at k ∙ ap (tree_at r.entries.bank) (sym h.atom) ∙ e
 
@@ -167,15 +167,15 @@ pair_without r i j a b first second none = (
 
 -- Walks
 
-abbrev pub IsDone : {S I C : Type 0} → Run S I C → ℕ → (Pair → Type 0) → (Pair → Type 0) → Type 0
-IsDone r i asked comes = (p : Pair) → asked p → comes p ⊎ IsPairWorked r i p.1
+abbrev pub IsDone : {S I C : Type 0} → Run S I C → ℕ → (Posting → Type 0) → (Posting → Type 0) → Type 0
+IsDone r i asked comes = (p : Posting) → asked p → comes p ⊎ IsPairWorked r i p.1
 
-pub done_on : {S I C : Type 0} (old new : Run S I C) (i j : ℕ) (asked before after : Pair → Type 0) → Goes old new → AreEntries old.entries.bank (items old) → i ≤ length (items old)
-    → ((p : Pair) → asked p → p.1 ≤ length (items old)) → IsDone old i asked before → Gives before j after → IsPairWorked new i j → IsDone new i asked after
+pub done_on : {S I C : Type 0} (old new : Run S I C) (i j : ℕ) (asked before after : Posting → Type 0) → Goes old new → AreEntries old.entries.bank (items old) → i ≤ length (items old)
+    → ((p : Posting) → asked p → p.1 ≤ length (items old)) → IsDone old i asked before → Gives before j after → IsPairWorked new i j → IsDone new i asked after
 done_on old new i j asked before after goes entries a within h (atom, here, rest) worked p k = go (h p k)
   where
     first : before p → (p ≡ (atom, j)) ⊎ ¬ (p ≡ (atom, j)) → after p ⊎ IsPairWorked new i p.1
-    first b (inl e) = inr (transport (λ (x : Pair). IsPairWorked new i x.1) (sym e) worked)
+    first b (inl e) = inr (transport (λ (x : Posting). IsPairWorked new i x.1) (sym e) worked)
     first b (inr m) = inl ((rest p).1 (b, m))
 
     go : before p ⊎ IsPairWorked old i p.1 → after p ⊎ IsPairWorked new i p.1
@@ -198,9 +198,9 @@ pub tree_stays : {S I C : Type 0} (old new : Run S I C) → Goes old new → Are
 tree_stays old new goes entries n t (a, h, e) = (a, selected_stays old new goes entries n a h, goes.bank.trees.1 a (selected_within old n a entries h).0 ∙ e)
 
 -- what is no pair of unifiable atoms needs no work
-pub all_worked : {S I C : Type 0} (start r : Run S I C) (i atom : ℕ) (pairs : List Pair) (comes over : Pair → Type 0) → Goes start r → AreEntries start.entries.bank (items start) → IsSelectedAtom start i atom
-    → ((p : Pair) → Contains pairs p → IsStored start p) → ((p : Pair) → Contains pairs p → ((s : Sided) × IsUnifier s (tree_at start.entries.bank p.0) (tree_at start.entries.bank atom)) → comes p)
-    → IsDone r i comes over → IsOver over → (p : Pair) → Contains pairs p → IsPairWorked r i p.1
+pub all_worked : {S I C : Type 0} (start r : Run S I C) (i atom : ℕ) (pairs : List Posting) (comes over : Posting → Type 0) → Goes start r → AreEntries start.entries.bank (items start) → IsSelectedAtom start i atom
+    → ((p : Posting) → Contains pairs p → IsStored start p) → ((p : Posting) → Contains pairs p → ((s : Sided) × IsUnifier s (tree_at start.entries.bank p.0) (tree_at start.entries.bank atom)) → comes p)
+    → IsDone r i comes over → IsOver over → (p : Posting) → Contains pairs p → IsPairWorked r i p.1
 all_worked start r i atom pairs comes over goes entries selected stored asked done none p k = (
   λ m n l o opposite s g q. (go (swapped s, sym (sym (ap (apply s.left) (placed_tree r i (tree_at start.entries.bank atom) m first l)) ∙ g.unifies ∙ ap (apply s.right) (placed_tree r p.1 (tree_at start.entries.bank p.0) n second o)))).0 m n l o opposite s g q,
   λ n m o l opposite s g q. (go (s, sym (ap (apply s.left) (placed_tree r p.1 (tree_at start.entries.bank p.0) n second o)) ∙ g.unifies ∙ ap (apply s.right) (placed_tree r i (tree_at start.entries.bank atom) m first l))).1 n m o l opposite s g q,

@@ -1,7 +1,7 @@
 -- Runs at rest, and the certificates that they give.
 use Rattle.std.specs.Prelude.{◌≡◌, ℕ, List, [], length}
 use Rattle.term_bank.specs.Forest.{Forest}
-use Rattle.term_index.specs.Pairs.{Pair}
+use Rattle.term_index.specs.Pairs.{Posting}
 use Rattle.cert_values.specs.declared.certificate.Saturation.{Saturation}
 use Rattle.instgen_loop.specs.declared.start.Given.{Given}
 use Rattle.instgen_loop.specs.declared.state.Run.{Run}
@@ -12,7 +12,7 @@ use Rattle.instgen_loop.specs.Refuting.{remains_of, base_from}
 use Rattle.instgen_loop.specs.Tended.{AreTended}
 
 -- nothing waits, each entry has a place, and what is indexed is worked
-pub record IsAtRest {S I C : Type 0} (atoms : S → ℕ) (pairs : I → List Pair) (fits : Forest → I → Type 0) (r : Run S I C) (p : Partners I C) : Type 0 where
+pub record IsAtRest {S I C : Type 0} (atoms : S → ℕ) (pairs : I → List Posting) (fits : Forest → I → Type 0) (r : Run S I C) (p : Partners I C) : Type 0 where
   pub safe : IsConsistent atoms pairs fits r
   pub tended : AreTended pairs r p
   pub rests : r.queue.items ≡ []

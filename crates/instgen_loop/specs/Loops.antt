@@ -12,13 +12,13 @@ use Rattle.unify_core.specs.Chains.{AreBindings}
 use Rattle.unify_core.specs.Terms.{AreTerms}
 use Rattle.unify_core.specs.declared.side.Side.{Side}
 use Rattle.inst_calculus.specs.Entries.{Entry, entry_clauses}
-use Rattle.inst_calculus.specs.Models.{Member}
+use Rattle.inst_calculus.specs.Models.{SelectedClause}
 use Rattle.inst_calculus.specs.Saturation.{IsCovered}
 use Rattle.engine_laws.specs.Places.{IsPlaced}
 use Rattle.engine_laws.specs.Pairs.{Held, IsWorked}
 use Rattle.inst_logic.specs.Tree.{Tree}
 use Rattle.term_bank.specs.Forest.{Forest, Extends, tree_at, clause_at}
-use Rattle.term_index.specs.Pairs.{Pair}
+use Rattle.term_index.specs.Pairs.{Posting}
 use Rattle.ground_abs.specs.Abstracts.{AreAtomsIn, AreNotesIn, Grows}
 use Rattle.instgen_select.specs.Queues.{numbers}
 use Rattle.cert_values.specs.declared.member.Origin.{Origin}
@@ -41,7 +41,7 @@ pub record IsLiteralPlace (es : List Item) (places : List ℕ) (i : ℕ) : Type 
   pub literal_at : at_number item.0 place ≡ Some literal
 
 -- What each call on a run needs: ids are ids, the indexes and the solvers fit the entries, and numbers name entries.
-pub record IsConsistent {S I C : Type 0} (atoms : S → ℕ) (pairs : I → List Pair) (fits : Forest → I → Type 0) (r : Run S I C) : Type 0 where
+pub record IsConsistent {S I C : Type 0} (atoms : S → ℕ) (pairs : I → List Posting) (fits : Forest → I → Type 0) (r : Run S I C) : Type 0 where
   pub entries : AreEntries r.entries.bank (items r)
   pub firsts : AreFirsts pairs r.entries (items r)
   pub stored : fits r.entries.bank r.entries.first
@@ -110,14 +110,14 @@ pub record Goes {S I C : Type 0} (old new : Run S I C) : Type 0 where
 
 -- where the substitution is proper for the selected literal of entry `from`, what it gives is covered or held back
 abbrev pub IsSideWorkedIn : List Entry → List ℕ → List Held → Substitution → ℕ → ℕ → Type 0
-IsSideWorkedIn es places held s from partner = (m n : Member) (l : IsPlaced es places from m) (o : IsPlaced es places partner n)
+IsSideWorkedIn es places held s from partner = (m n : SelectedClause) (l : IsPlaced es places from m) (o : IsPlaced es places partner n)
     → IsProper s m.selected.atom → IsCovered (entry_clauses es) m.clause (instance s m.clause) ⊎ Contains held (record { from = from; place = l.place; partner = partner; other = o.place })
 
 abbrev pub IsSideWorked : {S I C : Type 0} → Run S I C → Substitution → ℕ → ℕ → Type 0
 IsSideWorked r s from partner = IsSideWorkedIn (entries_in r.entries.bank (items r)) r.selection.places (held_of r) s from partner
 
 -- the pair is the selected atom of an entry with its number
-abbrev pub IsStored : {S I C : Type 0} → Run S I C → Pair → Type 0
+abbrev pub IsStored : {S I C : Type 0} → Run S I C → Posting → Type 0
 IsStored r p = (0 < p.1) × (p.1 ≤ length r.selection.places) × IsSelectedAtom r p.1 p.0
 
 -- the tree is the atom of the selected literal of entry n
@@ -160,13 +160,13 @@ abbrev pub IsSigned : {S I C : Type 0} → Run S I C → ℕ → Bool → Type 0
 IsSigned r n b = (l : Signed ℕ) × IsSelectedLiteral r n l × (l.positive ≡ b)
 
 -- the indexes have selected atoms of the run with their numbers, each those of one sign
-pub record ArePartners {S I C : Type 0} (pairs : I → List Pair) (fits : Forest → I → Type 0) (r : Run S I C) (p : Partners I C) : Type 0 where
+pub record ArePartners {S I C : Type 0} (pairs : I → List Posting) (fits : Forest → I → Type 0) (r : Run S I C) (p : Partners I C) : Type 0 where
   pub positive_fits : fits r.entries.bank p.positive
   pub negative_fits : fits r.entries.bank p.negative
-  pub positive_stored : (q : Pair) → Contains (pairs p.positive) q → IsStored r q
-  pub negative_stored : (q : Pair) → Contains (pairs p.negative) q → IsStored r q
-  pub positive_signed : (q : Pair) → Contains (pairs p.positive) q → IsSigned r q.1 true
-  pub negative_signed : (q : Pair) → Contains (pairs p.negative) q → IsSigned r q.1 false
+  pub positive_stored : (q : Posting) → Contains (pairs p.positive) q → IsStored r q
+  pub negative_stored : (q : Posting) → Contains (pairs p.negative) q → IsStored r q
+  pub positive_signed : (q : Posting) → Contains (pairs p.positive) q → IsSigned r q.1 true
+  pub negative_signed : (q : Posting) → Contains (pairs p.negative) q → IsSigned r q.1 false
 
 -- what waits has a number, and a place
 abbrev pub AreWaiting : {S I C : Type 0} → Run S I C → Type 0

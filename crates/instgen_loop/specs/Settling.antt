@@ -5,7 +5,7 @@ use Rattle.inst_logic.specs.Truth.{IsTrueClause}
 use Rattle.prop_logic.specs.Literal.{AllAtomsBelow}
 use Rattle.prop_logic.specs.Valuation.{IsHeld}
 use Rattle.term_bank.specs.Forest.{Forest}
-use Rattle.term_index.specs.Pairs.{Pair}
+use Rattle.term_index.specs.Pairs.{Posting}
 use Rattle.instgen_select.specs.Queues.{numbers}
 use Rattle.instgen_loop.specs.declared.state.Run.{Run}
 use Rattle.instgen_loop.specs.declared.queue.Partners.{Partners}
@@ -26,7 +26,7 @@ pub record AreSelectable {S I C : Type 0} (r : Run S I C) (bits : List Bool) : T
   pub placed : AreNumbersPlaced r.selection
 
 -- the run and its indexes fit each other, and what is indexed is worked
-pub record IsOrderly {S I C : Type 0} (atoms : S → ℕ) (pairs : I → List Pair) (fits : Forest → I → Type 0) (r : Run S I C) (p : Partners I C) : Type 0 where
+pub record IsOrderly {S I C : Type 0} (atoms : S → ℕ) (pairs : I → List Posting) (fits : Forest → I → Type 0) (r : Run S I C) (p : Partners I C) : Type 0 where
   pub safe : IsConsistent atoms pairs fits r
   pub partners : ArePartners pairs fits r p
   pub tended : AreTended pairs r p

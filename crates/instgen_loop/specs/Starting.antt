@@ -8,7 +8,7 @@ use Rattle.inst_logic.specs.WellFormed.{is_constant}
 use Rattle.inst_calculus.specs.Abstraction.{IsBot}
 use Rattle.inst_calculus.specs.Axioms.{equality_axioms}
 use Rattle.term_bank.specs.Forest.{Forest, AreFormed, clause_at}
-use Rattle.term_index.specs.Pairs.{Pair}
+use Rattle.term_index.specs.Pairs.{Posting}
 use Rattle.cert_values.specs.Wholes.{IsWholeClause}
 use Rattle.instgen_loop.specs.declared.start.Given.{Given}
 use Rattle.instgen_loop.specs.declared.state.Run.{Run}
@@ -16,7 +16,7 @@ use Rattle.instgen_loop.specs.Logs.{no_solves}
 use Rattle.instgen_loop.specs.Loops.{items}
 
 -- nothing happened yet, and there are no entries
-pub record IsFresh {S I C : Type 0} (atoms : S → ℕ) (added : S → List (List (Signed ℕ))) (pairs : I → List Pair) (r : Run S I C) : Type 0 where
+pub record IsFresh {S I C : Type 0} (atoms : S → ℕ) (added : S → List (List (Signed ℕ))) (pairs : I → List Posting) (r : Run S I C) : Type 0 where
   pub bank : AreFormed r.entries.bank
   pub entries : items r ≡ []
   pub first : pairs r.entries.first ≡ []

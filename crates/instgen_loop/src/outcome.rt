@@ -17,7 +17,7 @@ use crate::event::Journal;
 use crate::event_log::EventLog;
 use crate::finish::finish;
 use crate::queue::Partners;
-use crate::refuted::refuted_by;
+use crate::refuted::refuted_ending;
 use crate::start::{new_run, start};
 use crate::state::Run;
 use cert_values::{Refutation, Saturation};
@@ -79,7 +79,7 @@ fn drive<S: Solver, I: PartnerIndex>(
     let given = start(alloc, p, run, first_values, budget)?;
     match cycle(alloc, run, &mut partners, p, budget, most_entries)? {
         Stop::Refuted(derivation) => {
-            let ending = refuted_by(alloc, p, run, given, derivation, budget)?;
+            let ending = refuted_ending(alloc, p, run, given, derivation, budget)?;
             Ok(Some(ending))
         }
         Stop::Finished => {

@@ -30,9 +30,9 @@ use std::alloc::Global;
 use term_bank::{Bank, IdClause, TermId};
 use unify_core::{Bindings, Side};
 
-// Room for bindings, and the constant that stands for the variables that a part of a conclusion lacks.
+// Bindings, and the constant that stands for the variables that a part of a conclusion lacks.
 #[derive(Drop)]
-struct Room {
+struct Instantiation {
     bindings: Bindings,
     constant: TermId,
 }
@@ -107,7 +107,7 @@ fn how_whole(
 fn how_part(
     alloc: Global,
     bank: &mut Bank,
-    room: &mut Room,
+    room: &mut Instantiation,
     clauses: &Origins,
     at: Premises,
     lemma: Lemma,
@@ -136,7 +136,7 @@ fn how_part(
 fn how_of(
     alloc: Global,
     bank: &mut Bank,
-    room: &mut Room,
+    room: &mut Instantiation,
     clauses: &Origins,
     origin: Origin,
 ) -> Result<How, Memory>
@@ -180,7 +180,7 @@ fn how_of(
 fn record_of(
     alloc: Global,
     bank: &mut Bank,
-    room: &mut Room,
+    room: &mut Instantiation,
     clauses: &Origins,
     n: usize,
 ) -> Result<Made, Memory>
@@ -204,7 +204,7 @@ fn record_of(
 fn records_with(
     alloc: Global,
     bank: &mut Bank,
-    room: &mut Room,
+    room: &mut Instantiation,
     clauses: &Origins,
 ) -> Result<MadeList, Memory>
     requires entries { AreEntries bank.old clauses.now.entries }
@@ -238,7 +238,7 @@ pub fn records_of(
     ensures records { IfOk result (AreRecordsOf bot.now bank.new clauses.now.entries) }
 {
     let constant = bank.app(bot, &[])?;
-    let mut room = Room {
+    let mut room = Instantiation {
         bindings: Bindings::new(alloc),
         constant,
     };

@@ -157,7 +157,7 @@ fn refuted_run<S: Solver, I: PartnerIndex>(
 
 /// What the refutation is made of that the derivation gives. It takes the bank, the entries and their abstractions of the run, of
 /// which only the log serves for anything after.
-pub fn refuted_by<S: Solver, I: PartnerIndex>(
+pub fn refuted_ending<S: Solver, I: PartnerIndex>(
     alloc: Global,
     _p: &Problem,
     run: &mut Run<S, I>,

@@ -114,7 +114,7 @@ pub fn new_run<S: Solver, I: PartnerIndex>(
 }
 
 // The clauses with the id of each atom in its place.
-fn clauses_by_id(alloc: Global, bank: &mut Bank, clauses: &ClauseList) -> Result<IdClauses, Memory>
+fn intern_clauses(alloc: Global, bank: &mut Bank, clauses: &ClauseList) -> Result<IdClauses, Memory>
     requires formed { AreFormed bank.old }
     requires clauses { AreFormedClauses clauses.now }
     ensures given { IfOk result (λ ids. AreGiven bank.new ids clauses.now) }
@@ -228,9 +228,9 @@ fn given_in(alloc: Global, bank: &mut Bank, p: &Problem) -> Result<Given, Memory
     ensures extends { Extends bank.old bank.new }
     ensures formed { AreFormed bank.new }
 {
-    let inputs = clauses_by_id(alloc, bank, &p.clauses)?;
+    let inputs = intern_clauses(alloc, bank, &p.clauses)?;
     let axioms = axioms_of(alloc, p)?;
-    let axioms = clauses_by_id(alloc, bank, &axioms)?;
+    let axioms = intern_clauses(alloc, bank, &axioms)?;
     Ok(Given { inputs, axioms })
 }
 

@@ -3,7 +3,7 @@ ghost use Rattle.std.specs.Prelude.{◌≡◌, ◌<◌, ◌≤◌, ℕ, true, fa
 ghost use Rattle.inst_logic.specs.Tree.{Tree};
 ghost use Rattle.inst_logic.specs.Unifiers.{Sided, IsMostGeneral};
 ghost use Rattle.unify_core.specs.Sides.{IsResolvedBy, of_pair, of_side};
-ghost use Rattle.term_index.specs.Pairs.{Pair};
+ghost use Rattle.term_index.specs.Pairs.{Posting};
 ghost use Rattle.instgen_loop.specs.Loops.{IsConsistent, Goes, IsSelectedAtom, IsSelectedTree, IsSideWorked, IsSelectedLiteral, IsPairWorked, IsStored, IsUnified};
 ghost use Rattle.instgen_loop.specs.Alike.{IsWorkedWith, IsDoneWith};
 ghost use Rattle.instgen_loop.specs.Running.{AreOpposite, ArePaired, KeepsRunning};
@@ -192,12 +192,12 @@ fn work_all<S: Solver, I: PartnerIndex>(
     requires safe { IsConsistent S.atoms I.pairs I.fits run.old }
     requires picked { (0 < pick.entry) × (pick.entry ≤ length run.old.selection.places) }
     requires fits { I.fits run.old.entries.bank partners.now }
-    requires stored { (p : Pair) → Contains (I.pairs partners.now) p → IsStored run.old p }
-    requires indexed { IfSome pick.indexed (λ k. (0 < k) × (k ≤ length run.old.selection.places) × ((p : Pair) → Contains (I.pairs partners.now) p → IsPairWorked run.old k p.1)) }
+    requires stored { (p : Posting) → Contains (I.pairs partners.now) p → IsStored run.old p }
+    requires indexed { IfSome pick.indexed (λ k. (0 < k) × (k ≤ length run.old.selection.places) × ((p : Posting) → Contains (I.pairs partners.now) p → IsPairWorked run.old k p.1)) }
     ensures safe { OnOk result (IsConsistent S.atoms I.pairs I.fits run.new) }
     ensures goes { OnOk result (Goes run.old run.new) }
-    ensures running { OnOk result (((p : Pair) → Contains (I.pairs partners.now) p → AreOpposite run.old pick.entry p.1) → KeepsRunning S.atoms S.added run.old run.new) }
-    ensures worked { OnOk result ((p : Pair) → Contains (I.pairs partners.now) p → IsPairWorked run.new pick.entry p.1) }
+    ensures running { OnOk result (((p : Posting) → Contains (I.pairs partners.now) p → AreOpposite run.old pick.entry p.1) → KeepsRunning S.atoms S.added run.old run.new) }
+    ensures worked { OnOk result ((p : Posting) → Contains (I.pairs partners.now) p → IsPairWorked run.new pick.entry p.1) }
 {
     let atom = selected_atom(run, pick.entry);
     let mut last = None;
@@ -280,13 +280,13 @@ pub fn work_with<S: Solver, I: PartnerIndex>(
     requires picked { (0 < i) × (i ≤ length run.old.selection.places) }
     requires fits { I.fits run.old.entries.bank partners.now }
     requires own_fits { I.fits run.old.entries.bank own.now }
-    requires stored { (p : Pair) → Contains (I.pairs partners.now) p → IsStored run.old p }
-    requires own_stored { (p : Pair) → Contains (I.pairs own.now) p → IsStored run.old p }
-    requires worked { (p q : Pair) → Contains (I.pairs own.now) p → Contains (I.pairs partners.now) q → IsPairWorked run.old p.1 q.1 }
+    requires stored { (p : Posting) → Contains (I.pairs partners.now) p → IsStored run.old p }
+    requires own_stored { (p : Posting) → Contains (I.pairs own.now) p → IsStored run.old p }
+    requires worked { (p q : Posting) → Contains (I.pairs own.now) p → Contains (I.pairs partners.now) q → IsPairWorked run.old p.1 q.1 }
     ensures safe { OnOk result (IsConsistent S.atoms I.pairs I.fits run.new) }
     ensures goes { OnOk result (Goes run.old run.new) }
-    ensures running { OnOk result (((p : Pair) → Contains (I.pairs partners.now) p → AreOpposite run.old i p.1) → KeepsRunning S.atoms S.added run.old run.new) }
-    ensures worked { OnOk result ((p : Pair) → Contains (I.pairs partners.now) p → IsPairWorked run.new i p.1) }
+    ensures running { OnOk result (((p : Posting) → Contains (I.pairs partners.now) p → AreOpposite run.old i p.1) → KeepsRunning S.atoms S.added run.old run.new) }
+    ensures worked { OnOk result ((p : Posting) → Contains (I.pairs partners.now) p → IsPairWorked run.new i p.1) }
 {
     let indexed = first_shared(run, own, i)?;
     work_all(alloc, run, partners, Pick { entry: i, indexed })

@@ -41,7 +41,7 @@ use Rattle.dimacs_front.specs.declared.file.SatError.{SatError}
 use Rattle.szs_prove.specs.Sizes.{IsRefutedIn}
 use Rattle.szs_prove.specs.SizeWords.{size_lines}
 use Rattle.szs_prove.specs.Answers.{IsOutOfBudget, IsProof, IsRefusal, IsUndecided, IsVerdict, Reading}
-use Rattle.szs_prove.specs.Answered.{Answered, AsksAtom, AsksChain, AsksCheck, AsksClauses, AsksCore, AsksFormula, AsksModel, AsksProof, AsksRewriting, EndsChain, IsAnswer, IsCoreOutcome, IsFinding, IsInterrupted, IsMeasured, IsModelOutcome, IsNamed, IsReplyOf, IsRewritingOf, OfCertificate, TellsValue, WantsMemory, WritesCertificate, WritesComplaint, WritesCore, WritesFormula, WritesJudgement, WritesModel, WritesNumbers, WritesReply, WritesRewriting, WritesSize, WritesSolved, Writing, ask_exit, ask_text, check_exit, check_text, exit_for, exit_for_problem, judgement_exit, qbf_exit, qbf_text, reply_exit, rewriting_exit, rewriting_text, sat_exit, sat_text, solved_exit, solved_text, stress_exit, stress_text, text_for, text_for_problem, unjudged_reason, unjudged_status, value_exit, value_text}
+use Rattle.szs_prove.specs.Answered.{Answered, AsksAtom, AsksChain, AsksCheck, AsksClauses, AsksCore, AsksFormula, AsksModel, AsksProof, AsksRewriting, EndsChain, IsAnswer, IsCoreOutcome, IsFinding, IsInterrupted, IsMeasured, IsModelOutcome, IsNamed, IsReplyOf, IsRewritingOf, OfCertificate, TellsValue, WantsMemory, WritesCertificate, WritesComplaint, WritesCore, WritesFormula, WritesJudgement, WritesModel, WritesNumbers, WritesReply, WritesRewriting, WritesSize, WritesSolved, Writing, ask_exit, ask_text, check_exit, check_text, exit_for, problem_exit, judgement_exit, qbf_exit, qbf_text, reply_exit, rewriting_exit, rewriting_text, sat_exit, sat_text, solved_exit, solved_text, stress_exit, stress_text, text_for, problem_text, unjudged_reason, unjudged_status, value_exit, value_text}
 use Rattle.szs_prove.specs.Texts.{exit_of, load_reason, load_status, refusal_text, text_reason, text_status, want_text, reason_of, status_of}
 use Rattle.szs_prove.specs.CoreAnswers.{HasCoreAnswer, IsUncored}
 use Rattle.szs_prove.specs.Formulas.{IsFormulaAnswer, IsFormulaOutcome, IsFormulaRefused}
@@ -357,7 +357,7 @@ module _ (words : List (List ℕ)) (read : Reading) where
   -- ---- each command
 
   refusal_tells : (file : List ℕ) (root : Option (List ℕ)) (budget : ℕ) → IsAsked words (prove file root budget) → (why : Refusal) → IsRefusal (IsUndecided budget) read file root why
-      → Tells (refusal_text file why) (exit_for_problem (Err why))
+      → Tells (refusal_text file why) (problem_exit (Err why))
   refusal_tells file root budget asked (Load e) h = notice_tells file (load_reason e) (named_by (prove file root budget) asked) (load_status e) (load_caused file root e h)
   refusal_tells file root budget asked (Unanswered (OutOfBudget all left least)) h = record {
     file = file;
@@ -374,7 +374,7 @@ module _ (words : List (List ℕ)) (read : Reading) where
   refusal_tells file root budget asked Memory h = record { name = file; named = named_by (prove file root budget) asked; is = refl }
 
   prove_tells : (file : List ℕ) (root : Option (List ℕ)) (budget : ℕ) → IsAsked words (prove file root budget) → (o : Result (List ℕ) Refusal) → IsProof read file root budget o
-      → Tells (text_for_problem file o) (exit_for_problem o)
+      → Tells (problem_text file o) (problem_exit o)
   prove_tells file root budget asked (Ok text) h =
       (prove file root budget, asked, record { file = file; root = root; budget = budget; asked = asked; certificate = h.0; is_verdict = h.1; is = h.2 })
   prove_tells file root budget asked (Err why) h = refusal_tells file root budget asked why h
@@ -468,11 +468,11 @@ module _ (words : List (List ℕ)) (read : Reading) where
   qbf_tells file asked (Err e) h = notice_tells file (refusal_reason file e) (named_by (qbf file) asked) (refusal_status e) (qbf_caused file e h)
 
   fmodel_tells : (elements : ℕ) (file : List ℕ) (root : Option (List ℕ)) → IsAsked words (fmodel elements file root) → (o : Result (List ℕ) Refusal) → IsModelOutcome read elements file root o
-      → Tells (text_for_problem file o) (exit_for_problem o)
+      → Tells (problem_text file o) (problem_exit o)
   fmodel_tells elements file root asked (Ok text) h = (fmodel elements file root, asked, record { elements = elements; file = file; root = root; asked = asked; shown = h })
   fmodel_tells elements file root asked (Err why) h = notice_tells file (reason_of why) (named_by (fmodel elements file root) asked) (status_of why) (model_caused elements file root why h)
 
-  core_tells : (file : List ℕ) (root : Option (List ℕ)) → IsAsked words (core file root) → (o : Result (List ℕ) Refusal) → IsCoreOutcome read file root o → Tells (text_for_problem file o) (exit_for_problem o)
+  core_tells : (file : List ℕ) (root : Option (List ℕ)) → IsAsked words (core file root) → (o : Result (List ℕ) Refusal) → IsCoreOutcome read file root o → Tells (problem_text file o) (problem_exit o)
   core_tells file root asked (Ok text) h = (core file root, asked, record { file = file; root = root; asked = asked; shown = h })
   core_tells file root asked (Err why) h = notice_tells file (reason_of why) (named_by (core file root) asked) (status_of why) (core_caused file root why h)
 

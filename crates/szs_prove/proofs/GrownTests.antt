@@ -6,10 +6,10 @@ use Rattle.inst_logic.specs.Tree.{Tree}
 use Rattle.inst_logic.specs.Substitution.{tree_vars}
 use Rattle.inst_logic.specs.Measure.{is_function_free}
 use Rattle.inst_logic.specs.WellFormed.{AreFormedClauses, IsAtom}
-use Rattle.inst_calculus.specs.Models.{IsTrueBy, Member}
+use Rattle.inst_calculus.specs.Models.{IsTrueBy, SelectedClause}
 use Rattle.term_bank.specs.Forest.{AreDistinct, IsAt, arguments_of, is_ground, literal_tree, tree_at}
 use Rattle.term_bank.proofs.GroundTrees.{ground_by_variables}
-use Rattle.term_index.specs.Pairs.{Pair}
+use Rattle.term_index.specs.Pairs.{Posting}
 use Rattle.term_index.specs.State.{State, pairs_of, Fits}
 use Rattle.term_index.specs.StateLaws.{grown_tree}
 use Rattle.cert_format.specs.Certificate as format
@@ -40,7 +40,7 @@ module _ (c d : Saturation) (whole : IsWholeSaturation c) (kept : KeepsSaturatio
     literal = s.literal ∙ (λ i. record { positive = l.positive; atom = sym (kept.base.bank.trees.1 l.atom s.within) i });
   }
 
-  module _ (distinct : AreDistinct d.base.bank.trees) (sign : Bool) (ps : List Pair) (h : AreSelected c sign ps) (p : Pair) where
+  module _ (distinct : AreDistinct d.base.bank.trees) (sign : Bool) (ps : List Posting) (h : AreSelected c sign ps) (p : Posting) where
     abbrev l : Signed ℕ
     l = record { positive = sign; atom = p.0 }
 
@@ -59,7 +59,7 @@ module _ (c d : Saturation) (whole : IsWholeSaturation c) (kept : KeepsSaturatio
         let (k, s, q) = literal_of_member c whole m u.member (transport (λ (x : format.Saturation). SelectsAt x (suc m) u.member) same u.is) in
         stored (suc m) k e u s
 
-  pub selected_grown : AreDistinct d.base.bank.trees → (sign : Bool) (ps : List Pair) → AreSelected c sign ps → AreSelected d sign ps
+  pub selected_grown : AreDistinct d.base.bank.trees → (sign : Bool) (ps : List Posting) → AreSelected c sign ps → AreSelected d sign ps
   selected_grown distinct sign ps h p = (λ i. literal_grown p.1 (record { positive = sign; atom = p.0 }) ((h p).0 i), λ t. from distinct sign ps h p p.1 refl t)
 
 pub ready_grown : (c d : Covered) (positive negative : State) → IsReady c positive negative → KeepsCovered c d → IsWholeCovered d → AreDistinct d.cert.base.bank.trees → IsReady d positive negative
@@ -128,7 +128,7 @@ pub placed_read : (c r : Covered) → r ≡ c → IsNamed (covered_of c) → Has
 placed_read c r is named = transport (λ (x : Covered). HasPlaces (saturation_of x.cert)) (sym is) (named_places c named)
 
 pub light_read : (c r : Covered) → r ≡ c → AreFormedClauses (covered_of c).saturation.base.inputs → IsTrue (is_function_free (covered_of c).saturation.base.inputs) → IsNamed (covered_of c)
-    → ((n : ℕ) (m : Member) → SelectsAt (saturation_of r.cert) n m → length (arguments_of m.selected.atom) < 2 ^ 63) → Numbered → AreLight (selected_members (saturation_of r.cert))
+    → ((n : ℕ) (m : SelectedClause) → SelectsAt (saturation_of r.cert) n m → length (arguments_of m.selected.atom) < 2 ^ 63) → Numbered → AreLight (selected_members (saturation_of r.cert))
 light_read c r is formed free named short numbered =
     let same : (covered_of c).saturation ≡ saturation_of r.cert = ap (λ (x : Covered). saturation_of x.cert) (sym is) in
     members_are_light (saturation_of r.cert) (transport (λ (s : format.Saturation). AreFormedClauses s.base.inputs) same formed) (transport (λ (s : format.Saturation). IsTrue (is_function_free s.base.inputs)) same free)

@@ -17,7 +17,7 @@ use Rattle.inst_logic.proofs.ShownLaws.{at_number_contains}
 use Rattle.inst_calculus.specs.Axioms.{occurrences, with_axioms}
 use Rattle.inst_calculus.specs.Conclusions.{IsConclusion}
 use Rattle.inst_calculus.specs.Entries.{Origin, input, inst, lemma, Entry}
-use Rattle.inst_calculus.specs.Models.{Member}
+use Rattle.inst_calculus.specs.Models.{SelectedClause}
 use Rattle.inst_calculus.specs.Parts.{chosen}
 use Rattle.inst_calculus.proofs.EqualityAxioms.{with_axioms_formed, with_axioms_function_free}
 use Rattle.inst_calculus.proofs.Instances.{HasAtomsOver, canonical_over, instance_over}
@@ -92,10 +92,10 @@ module _ (P G : Sym → Type 0) (base : Base) (atoms : (c : TreeClause) → c �
 -- ---- the selected literals
 
 abbrev pub Numbered : Type 0
-Numbered = (es : List Entry) (places : List ℕ) (m : Member) → Contains (selected_at es places) m → (n : ℕ) × IsSelected es places n m
+Numbered = (es : List Entry) (places : List ℕ) (m : SelectedClause) → Contains (selected_at es places) m → (n : ℕ) × IsSelected es places n m
 
 module _ (c : Saturation) (formed : AreFormedClauses c.base.inputs) (free : IsTrue (is_function_free c.base.inputs)) (right : (n : ℕ) → IsRightMember c.base n)
-    (short : (n : ℕ) (m : Member) → IsSelected c.base.members c.places n m → length (arguments_of m.selected.atom) < 2 ^ 63) (numbered : Numbered) where
+    (short : (n : ℕ) (m : SelectedClause) → IsSelected c.base.members c.places n m → length (arguments_of m.selected.atom) < 2 ^ 63) (numbered : Numbered) where
   abbrev ss : List Sym
   ss = occurrences (with_axioms c.base.inputs)
 
@@ -103,7 +103,7 @@ module _ (c : Saturation) (formed : AreFormedClauses c.base.inputs) (free : IsTr
   flat = members_over (λ p. p ∈ ss) (IsConstantOf ss) c.base
       (clauses_are_flat (with_axioms c.base.inputs) (with_axioms_formed c.base.inputs formed) (with_axioms_function_free c.base.inputs free)) right
 
-  light : (m : Member) → m ∈ selected_members c → tree_weight m.selected.atom < 2 ^ 64 - 1
+  light : (m : SelectedClause) → m ∈ selected_members c → tree_weight m.selected.atom < 2 ^ 64 - 1
   light m i =
       let (n, s) = numbered c.base.members c.places m (in_contains m (selected_members c) i) in
       let atom = flat n s.entry s.entry_at m.selected (contains_in m.selected s.entry.clause (at_number_contains s.entry.clause s.place m.selected s.selected)) in
@@ -117,7 +117,7 @@ module _ (c : Saturation) (formed : AreFormedClauses c.base.inputs) (free : IsTr
 -- ---- one member after another
 
 -- a member whose literal is selected has a number
-pub number_of_selected : (c : Cert) (n : ℕ) (m : Member) → SelectsAt (saturation_of c) n m → (0 < n) × (n ≤ length c.base.members)
+pub number_of_selected : (c : Cert) (n : ℕ) (m : SelectedClause) → SelectsAt (saturation_of c) n m → (0 < n) × (n ≤ length c.base.members)
 number_of_selected c zero m s = absurd (cc (s.entry_at))
 number_of_selected c (suc k) m s =
     let w : k < length (map (entry_of c.base.bank) c.base.members) = slice_get_within (map (entry_of c.base.bank) c.base.members) k s.entry s.entry_at in
@@ -125,12 +125,12 @@ number_of_selected c (suc k) m s =
 
 -- the members up to a number have no more arguments than memory holds
 abbrev AreShort : Cert → ℕ → Type 0
-AreShort c i = (n : ℕ) (m : Member) → n ≤ i → SelectsAt (saturation_of c) n m → length (arguments_of m.selected.atom) < 2 ^ 63
+AreShort c i = (n : ℕ) (m : SelectedClause) → n ≤ i → SelectsAt (saturation_of c) n m → length (arguments_of m.selected.atom) < 2 ^ 63
 
 pub none_selected : (c : Cert) → AreShort c 0
 none_selected c n m low s = absurd (omega (arith, low, (number_of_selected c n m s).0))
 
-pub one_more_short : (c : Cert) (i : ℕ) → AreShort c i → ((m : Member) → SelectsAt (saturation_of c) (i + 1) m → length (arguments_of m.selected.atom) < 2 ^ 63) → AreShort c (i + 1)
+pub one_more_short : (c : Cert) (i : ℕ) → AreShort c i → ((m : SelectedClause) → SelectsAt (saturation_of c) (i + 1) m → length (arguments_of m.selected.atom) < 2 ^ 63) → AreShort c (i + 1)
 one_more_short c i before last n m most s = elim (cases_lt i n) [
   | inl past ↦ last m (transport (λ k. SelectsAt (saturation_of c) k m) (omega arith) s)
   | inr low ↦ before n m low s

@@ -45,7 +45,7 @@ use Rattle.dimacs_front.specs.declared.error.DimacsError.TheVariants as fault
 use Rattle.dimacs_front.specs.declared.file.SatError.{SatError}
 use Rattle.dimacs_front.specs.declared.file.SatError.TheVariants as bar
 use Rattle.szs_prove.specs.Answers.{HasVerdict, IsProblemOf, IsProof, IsRefusal, IsUndecided, Reading, ReasonRelation}
-use Rattle.szs_prove.specs.Answered.{Answered, Finding, Finds, IsAnswer, IsBarred, IsCoreOutcome, IsExact, IsFinding, IsFitting, IsLoaded, IsModelOutcome, IsRead, IsRefusedBy, IsReplyOf, IsRewritingOf, IsWanted, Situation, Stands, TextRelation, Wants, Writing, Yields, ask_exit, asks, check_exit, exit_for, exit_for_problem, judgement_exit, qbf_exit, reply_exit, rewriting_exit, sat_exit, stress_exit, unjudged_status, unread}
+use Rattle.szs_prove.specs.Answered.{Answered, Finding, Finds, IsAnswer, IsBarred, IsCoreOutcome, IsExact, IsFinding, IsFitting, IsLoaded, IsModelOutcome, IsRead, IsRefusedBy, IsReplyOf, IsRewritingOf, IsWanted, Situation, Stands, TextRelation, Wants, Writing, Yields, ask_exit, asks, check_exit, exit_for, problem_exit, judgement_exit, qbf_exit, reply_exit, rewriting_exit, sat_exit, stress_exit, unjudged_status, unread}
 use Rattle.szs_prove.specs.Texts.{exit_of, load_status, text_status}
 use Rattle.szs_prove.specs.CoreAnswers.{HasCoreAnswer, IsUncored}
 use Rattle.szs_prove.specs.Formulas.{IsFormulaOutcome, IsFormulaRefused}
@@ -287,7 +287,7 @@ module _ (words : List (List ℕ)) (files : List NamedFile) (read : Reading) (wr
       (w.0, w.1.loads, w.2)
 
   refusal_due : (file : List ℕ) (root : Option (List ℕ)) (budget : ℕ) → IsAsked words (prove file root budget) → (why : Refusal) → IsRefusal (IsUndecided budget) read file root why
-      → IsDue (exit_for_problem (Err why))
+      → IsDue (problem_exit (Err why))
   refusal_due file root budget asked (Load e) h =
       load_due file root e (load_here file root e h) (λ refuses. due (prove file root budget) (Err e) exit.Refused asked refuses refl)
   refusal_due file root budget asked (Unanswered (OutOfBudget all left least)) h =
@@ -298,14 +298,14 @@ module _ (words : List (List ℕ)) (files : List NamedFile) (read : Reading) (wr
   refusal_due file root budget asked Memory h = want_due
 
   prove_due : (file : List ℕ) (root : Option (List ℕ)) (budget : ℕ) → IsAsked words (prove file root budget) → (o : Result (List ℕ) Refusal) → IsProof read file root budget o
-      → IsDue (exit_for_problem o)
+      → IsDue (problem_exit o)
   prove_due file root budget asked (Ok text) h =
       let v = subst (λ (fs : Option (List NamedFile)). HasVerdict fs file root text) told h in
       due (prove file root budget) (Ok v.1.problem) exit.Decided asked v.1.is_problem.loads (inl refl)
   prove_due file root budget asked (Err why) h = refusal_due file root budget asked why h
 
   fmodel_due : (elements : ℕ) (file : List ℕ) (root : Option (List ℕ)) → IsAsked words (fmodel elements file root) → (o : Result (List ℕ) Refusal) → IsModelOutcome read elements file root o
-      → IsDue (exit_for_problem o)
+      → IsDue (problem_exit o)
   fmodel_due elements file root asked (Ok text) h =
       let a = subst (λ (fs : Option (List NamedFile)). HasModelAnswer fs elements file root text) told h in
       due (fmodel elements file root) (Ok a.0) exit.Decided asked (a.1.loads, a.2.narrow) refl
@@ -317,7 +317,7 @@ module _ (words : List (List ℕ)) (files : List NamedFile) (read : Reading) (wr
   fmodel_due elements file root asked (Err (Unanswered (Functions clause))) h = absurd h.2
   fmodel_due elements file root asked (Err Memory) h = want_due
 
-  core_due : (file : List ℕ) (root : Option (List ℕ)) → IsAsked words (core file root) → (o : Result (List ℕ) Refusal) → IsCoreOutcome read file root o → IsDue (exit_for_problem o)
+  core_due : (file : List ℕ) (root : Option (List ℕ)) → IsAsked words (core file root) → (o : Result (List ℕ) Refusal) → IsCoreOutcome read file root o → IsDue (problem_exit o)
   core_due file root asked (Ok text) h =
       let a = subst (λ (fs : Option (List NamedFile)). HasCoreAnswer fs file root text) told h in
       due (core file root) (Ok a.0) exit.Decided asked (a.1.loads, a.2) refl

@@ -18,7 +18,7 @@ use Rattle.dimacs_front.specs.declared.answers.SatAnswer.TheVariants.{Satisfiabl
 use Rattle.dimacs_front.specs.declared.file.SatError.{SatError}
 use Rattle.szs_prove.specs.SizeWords.{size_lines}
 use Rattle.szs_prove.specs.Answers.{IsProof, Reading}
-use Rattle.szs_prove.specs.Answered.{Answered, IsAnswer, IsCoreOutcome, IsModelOutcome, IsRewritingOf, TookCertificate, Writing, exit_for, exit_for_problem, qbf_text, rewriting_exit, rewriting_text, sat_text, text_for, text_for_problem, unjudged_reason, unjudged_status}
+use Rattle.szs_prove.specs.Answered.{Answered, IsAnswer, IsCoreOutcome, IsModelOutcome, IsRewritingOf, TookCertificate, Writing, exit_for, problem_exit, qbf_text, rewriting_exit, rewriting_text, sat_text, text_for, problem_text, unjudged_reason, unjudged_status}
 use Rattle.szs_prove.specs.Texts.{reason_of, status_of}
 use Rattle.szs_prove.specs.Formulas.{IsFormulaOutcome}
 use Rattle.szs_prove.specs.ModelAnswers.{IsNoTablesText, IsTablesText}
@@ -72,7 +72,7 @@ module _ (words : List (List ℕ)) (read : Reading) (write : Writing) (e : Exit)
   no_notice s name reason more same = no_other (notice_text s name reason) t.text more (notice_begins s name reason) t.is_text same
 
   prove_decides : (name : List ℕ) (root : Option (List ℕ)) (budget : ℕ) (o : Result (List ℕ) Refusal) → IsProof read name root budget o → (more : List ℕ)
-      → text_for_problem name o ≡ t.text ++ more → (exit_for_problem o ≡ exit.Decided) × (more ≡ [])
+      → problem_text name o ≡ t.text ++ more → (problem_exit o ≡ exit.Decided) × (more ≡ [])
   prove_decides name root budget (Ok text) h more same =
       let is : IsCertificateText (t.text ++ more) = record { format = written_format; name = name; value = h.0; name_is = h.1.name; printable = h.1.certifies.printable; is = sym same ∙ h.2 } in
       (refl, no_more t.text more t.is_text is)
@@ -97,11 +97,11 @@ module _ (words : List (List ℕ)) (read : Reading) (write : Writing) (e : Exit)
   not_formula name (Ok (False text)) h more same = no_line text t.text more (ap begins_comment h.4.1.is) t.is_text same
   not_formula name (Err e) h more same = no_notice (refusal_status e) name (refusal_reason name e) more same
 
-  not_tables : (elements : ℕ) (name : List ℕ) (root : Option (List ℕ)) (o : Result (List ℕ) Refusal) → IsModelOutcome read elements name root o → (more : List ℕ) → text_for_problem name o ≡ t.text ++ more → ⊥
+  not_tables : (elements : ℕ) (name : List ℕ) (root : Option (List ℕ)) (o : Result (List ℕ) Refusal) → IsModelOutcome read elements name root o → (more : List ℕ) → problem_text name o ≡ t.text ++ more → ⊥
   not_tables elements name root (Ok text) h more same = no_comment text t.text more (tables_third elements name h.0 text h.2.said) t.is_text same
   not_tables elements name root (Err why) h more same = no_notice (status_of why) name (reason_of why) more same
 
-  not_core : (name : List ℕ) (root : Option (List ℕ)) (o : Result (List ℕ) Refusal) → IsCoreOutcome read name root o → (more : List ℕ) → text_for_problem name o ≡ t.text ++ more → ⊥
+  not_core : (name : List ℕ) (root : Option (List ℕ)) (o : Result (List ℕ) Refusal) → IsCoreOutcome read name root o → (more : List ℕ) → problem_text name o ≡ t.text ++ more → ⊥
   not_core name root (Ok text) h more same = no_comment text t.text more (core_third h.0 name text h.3) t.is_text same
   not_core name root (Err why) h more same = no_notice (status_of why) name (reason_of why) more same
 

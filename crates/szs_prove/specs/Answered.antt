@@ -74,13 +74,13 @@ use Rattle.szs_prove.specs.declared.refusal.Refusal.TheVariants as why
 -- ---- what is told of each answer, and how the program ends with it
 
 -- of the commands that answer for the problem of a file
-abbrev pub text_for_problem : List ℕ → Result (List ℕ) Refusal → List ℕ
-text_for_problem name (Ok text) = text
-text_for_problem name (Err refusal) = refusal_text name refusal
+abbrev pub problem_text : List ℕ → Result (List ℕ) Refusal → List ℕ
+problem_text name (Ok text) = text
+problem_text name (Err refusal) = refusal_text name refusal
 
-abbrev pub exit_for_problem : Result (List ℕ) Refusal → Exit
-exit_for_problem (Ok text) = end.Decided
-exit_for_problem (Err refusal) = exit_of (status_of refusal)
+abbrev pub problem_exit : Result (List ℕ) Refusal → Exit
+problem_exit (Ok text) = end.Decided
+problem_exit (Err refusal) = exit_of (status_of refusal)
 
 -- truth values, or a derivation that there are none
 abbrev pub solved_text : SatAnswer → List ℕ
@@ -173,28 +173,28 @@ qbf_exit (Ok found) = value_exit found
 qbf_exit (Err error) = exit_of (refusal_status error)
 
 abbrev pub text_for : List ℕ → Answer → List ℕ
-text_for name (Prove outcome) = text_for_problem name outcome
+text_for name (Prove outcome) = problem_text name outcome
 text_for name (Sat outcome) = sat_text name outcome
 text_for name (Check outcome) = check_text name outcome
 text_for name (Rewrite outcome) = rewriting_text name outcome
 text_for name (Ask outcome) = ask_text name outcome
 text_for name (Stress outcome) = stress_text name outcome
 text_for name (Qbf outcome) = qbf_text name outcome
-text_for name (Fmodel outcome) = text_for_problem name outcome
-text_for name (Core outcome) = text_for_problem name outcome
+text_for name (Fmodel outcome) = problem_text name outcome
+text_for name (Core outcome) = problem_text name outcome
 text_for name Unread = notice_text status.UsageError name (codes "% usage\n")
 text_for name NoWords = want_text name
 
 abbrev pub exit_for : Answer → Exit
-exit_for (Prove outcome) = exit_for_problem outcome
+exit_for (Prove outcome) = problem_exit outcome
 exit_for (Sat outcome) = sat_exit outcome
 exit_for (Check outcome) = check_exit outcome
 exit_for (Rewrite outcome) = rewriting_exit outcome
 exit_for (Ask outcome) = ask_exit outcome
 exit_for (Stress outcome) = stress_exit outcome
 exit_for (Qbf outcome) = qbf_exit outcome
-exit_for (Fmodel outcome) = exit_for_problem outcome
-exit_for (Core outcome) = exit_for_problem outcome
+exit_for (Fmodel outcome) = problem_exit outcome
+exit_for (Core outcome) = problem_exit outcome
 exit_for Unread = end.Usage
 exit_for NoWords = end.Memory
 

@@ -4,7 +4,7 @@ use Rattle.inst_logic.specs.Tree.{Tree, var}
 use Rattle.inst_logic.specs.Clauses.{TreeClause}
 use Rattle.inst_logic.specs.Examples.{of_predicate, of_function, yes, no}
 use Rattle.inst_calculus.specs.Axioms.{with_axioms}
-use Rattle.inst_calculus.specs.Models.{Member, Makes}
+use Rattle.inst_calculus.specs.Models.{SelectedClause, Makes}
 
 -- `c1`, `c2`, ..
 abbrev pub constant : ℕ → Tree
@@ -43,4 +43,4 @@ chain_clauses n = edge_clauses (n - 1) ++ first_clause ∷ rule_clause ∷ last_
 
 -- no clauses with selected literals make every ground instance of these clauses and their axioms true
 abbrev pub HasNoModel : List TreeClause → Type 0
-HasNoModel cs = (ms : List Member) → ¬ All (Makes ms) (with_axioms cs)
+HasNoModel cs = (ms : List SelectedClause) → ¬ All (Makes ms) (with_axioms cs)

@@ -2,7 +2,7 @@
 use Rattle.std.specs.Prelude.{◌≡◌, ℕ, List, ⊤}
 use Rattle.inst_logic.specs.declared.clause.Problem.{Problem}
 use Rattle.inst_logic.specs.declared.symbol.Sym.{Sym}
-use Rattle.inst_calculus.specs.Models.{Member}
+use Rattle.inst_calculus.specs.Models.{SelectedClause}
 use Rattle.inst_machine.specs.Machine.{Event, State}
 use Rattle.inst_machine.specs.Replay.{ReplaysFrom}
 use Rattle.inst_machine.specs.Budget.{RunsOut}
@@ -26,7 +26,7 @@ pub record IsStopped (p : Problem) (budget left wanted : ℕ) : Type 0 where
   pub constant : Sym
   pub journal : List Event
   pub state : State
-  pub members : List Member
+  pub members : List SelectedClause
   pub ends : RunsOut p.clauses budget left wanted constant journal state members
 
 -- the certificate is one of the problem, and comes from a run

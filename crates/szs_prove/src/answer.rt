@@ -4,7 +4,7 @@ ghost use Rattle.std.specs.Prelude.{◌≡◌, codes};
 ghost use Rattle.outside_io.specs.Notices.{notice_text};
 ghost use Rattle.outside_io.specs.Pieces.{text_of};
 ghost use Rattle.outside_io.specs.declared.notices.Status.TheVariants as status;
-ghost use Rattle.szs_prove.specs.Answered.{ask_exit, ask_text, check_exit, check_text, exit_for, exit_for_problem, judgement_exit, qbf_exit, qbf_text, reply_exit, rewriting_exit, rewriting_text, sat_exit, sat_text, stress_exit, stress_text, text_for, text_for_problem, unjudged_reason, unjudged_status, value_exit, value_text};
+ghost use Rattle.szs_prove.specs.Answered.{ask_exit, ask_text, check_exit, check_text, exit_for, problem_exit, judgement_exit, qbf_exit, qbf_text, reply_exit, rewriting_exit, rewriting_text, sat_exit, sat_text, stress_exit, stress_text, text_for, problem_text, unjudged_reason, unjudged_status, value_exit, value_text};
 ghost use Rattle.szs_prove.specs.Texts.{want_text};
 ghost use Rattle.szs_prove.specs.Written.{IsWritten, exit_after};
 
@@ -122,7 +122,7 @@ fn usage(name: &[u8]) -> Pieces<'_>
 // ---- prove, fmodel, core
 
 fn problem_pieces<'a>(name: &'a [u8], outcome: &'a Result<ByteList, Refusal>) -> Pieces<'a>
-    ensures { text_of result ≡ text_for_problem name.now outcome.now }
+    ensures { text_of result ≡ problem_text name.now outcome.now }
 {
     match outcome {
         Ok(text) => whole_text(text.as_slice()),
@@ -131,7 +131,7 @@ fn problem_pieces<'a>(name: &'a [u8], outcome: &'a Result<ByteList, Refusal>) ->
 }
 
 fn problem_exit(outcome: &Result<ByteList, Refusal>) -> Exit
-    ensures { result ≡ exit_for_problem outcome.now }
+    ensures { result ≡ problem_exit outcome.now }
 {
     match outcome {
         Ok(_) => Exit::Decided,

@@ -4,7 +4,7 @@ ghost use Rattle.std.specs.Prelude.{◌≡◌, ◌+◌, ◌<◌, ◌≤◌, ◌^
 ghost use Rattle.inst_logic.specs.Measure.{is_function_free};
 ghost use Rattle.inst_logic.specs.WellFormed.{AreFormedClauses};
 ghost use Rattle.inst_calculus.specs.Axioms.{with_axioms};
-ghost use Rattle.inst_calculus.specs.Models.{Makes, Member};
+ghost use Rattle.inst_calculus.specs.Models.{Makes, SelectedClause};
 ghost use Rattle.cert_format.specs.Certificate.{selected_members};
 ghost use Rattle.cert_format.specs.Validity.{SelectsAt};
 ghost use Rattle.term_bank.specs.Forest.{arguments_of};
@@ -59,7 +59,7 @@ fn is_short(cert: &Saturation, i: usize)
     requires whole { IsWholeSaturation cert.now }
     requires placed { HasPlaces (saturation_of cert.now) }
     requires within { i < length cert.now.base.members }
-    ensures { (m : Member) → SelectsAt (saturation_of cert.now) (i + 1) m → length (arguments_of m.selected.atom) < 2 ^ 63 }
+    ensures { (m : SelectedClause) → SelectsAt (saturation_of cert.now) (i + 1) m → length (arguments_of m.selected.atom) < 2 ^ 63 }
 {
     let l = selected(cert, i);
     let _args = cert.base.bank.args(l.atom);
@@ -69,7 +69,7 @@ fn is_short(cert: &Saturation, i: usize)
 fn are_short(cert: &Saturation)
     requires whole { IsWholeSaturation cert.now }
     requires placed { HasPlaces (saturation_of cert.now) }
-    ensures { (n : ℕ) (m : Member) → SelectsAt (saturation_of cert.now) n m → length (arguments_of m.selected.atom) < 2 ^ 63 }
+    ensures { (n : ℕ) (m : SelectedClause) → SelectsAt (saturation_of cert.now) n m → length (arguments_of m.selected.atom) < 2 ^ 63 }
 {
     for i in 0..cert.base.members.len() {
         is_short(cert, i);

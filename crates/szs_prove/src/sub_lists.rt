@@ -149,7 +149,7 @@ impl<'a> SubLists<'a> {
 
     // The marked ones of the places where a run refutes their clauses too, since the refutation may have cited axioms that they
     // don't have; else all.
-    fn smaller_core(&self, places: &[usize], marks: &[bool]) -> Result<NumberList, Memory>
+    fn refuted_places(&self, places: &[usize], marks: &[bool]) -> Result<NumberList, Memory>
         requires places { ArePlaces self.now.clauses places.now }
         requires refuted { HasRefutation (clauses_at self.now.clauses places.now) }
         requires each { length marks.now ≡ length places.now }
@@ -170,7 +170,7 @@ impl<'a> SubListTest for SubLists<'a> {
     fn decide(&mut self, places: &[usize]) -> Result<Verdict, Memory> {
         match self.cited_at(places)? {
             Some(marks) => {
-                let cited = self.smaller_core(places, marks.as_slice())?;
+                let cited = self.refuted_places(places, marks.as_slice())?;
                 Ok(Verdict::Refuted(cited))
             }
             None => Ok(Verdict::Satisfiable),

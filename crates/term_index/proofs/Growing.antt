@@ -9,7 +9,7 @@ use Rattle.term_bank.proofs.Nodes.{last_or_before}
 use Rattle.term_index.specs.declared.label.Label.{Label}
 use Rattle.term_index.specs.declared.node.Edge.{Edge}
 use Rattle.term_index.specs.Nodes.{Content, no_content}
-use Rattle.term_index.specs.Pairs.{Pair}
+use Rattle.term_index.specs.Pairs.{Posting}
 use Rattle.term_index.specs.Left.{IsGrown, IsIndexed}
 use Rattle.term_index.specs.Paths.{PlaceLists, no_edge, edge_at, IsChild, Leads, Spans, Crosses, Holds, Reaches, Exits, content_at, exit_at, place_of, MakeTrie, AreListed, KeepsEdges, IsShort, AreShort}
 use Rattle.term_index.proofs.PathLaws.{leads_up, leads_kept}
@@ -40,7 +40,7 @@ pushed_empty (x ∷ ns) zero = refl
 pushed_empty (x ∷ ns) (suc n) = pushed_empty ns n
 
 -- what is at a node where pairs end
-pub holds_within : (ns : List Content) (n : ℕ) (p : Pair) → Holds ns n p → n < length ns
+pub holds_within : (ns : List Content) (n : ℕ) (p : Posting) → Holds ns n p → n < length ns
 holds_within [] n p h = absurd (omega (arith, h.1))
 holds_within (c ∷ ns) zero p h = omega arith
 holds_within (c ∷ ns) (suc n) p h = let r = holds_within ns n p h in omega (arith, r)
@@ -171,7 +171,7 @@ grown_trie es fs ps ns ms some g a = record {
     kept : KeepsEdges es fs
     kept = grown_keeps es fs ns ms g
 
-    held : (n : ℕ) (p : Pair) → Holds ms n p → Holds ns n p
+    held : (n : ℕ) (p : Posting) → Holds ms n p → Holds ns n p
     held n p h = subst (λ (x : Content). Contains x.pairs p) (g.same n) h
 
     listed : AreListed fs ps ns

@@ -4,37 +4,37 @@ use Rattle.std.proofs.lemmas.List.Elements.{Contains-append_left, Contains-appen
 use Rattle.std.proofs.Math.ListN.{get_or-append}
 use Rattle.std.proofs.Math.Seq.{get_or-append_seam}
 use Rattle.term_bank.proofs.Nodes.{last_or_before}
-use Rattle.term_index.specs.Pairs.{Pair}
+use Rattle.term_index.specs.Pairs.{Posting}
 use Rattle.term_index.specs.Nodes.{Content}
 use Rattle.term_index.specs.Paths.{content_at, Holds}
 use Rattle.term_index.specs.Frames.{leaf_of, leaf_at, leaves_before}
 
 -- one node
-here : (ps : List Pair) (n : ℕ) (p : Pair) → Contains ps p → Contains (leaf_of ps n) n
+here : (ps : List Posting) (n : ℕ) (p : Posting) → Contains ps p → Contains (leaf_of ps n) n
 here [] n p h = absurd (omega (arith, h.1))
 here (x ∷ ps) n p h = (0, omega arith, refl)
 
-is_here : (ps : List Pair) (n c : ℕ) → Contains (leaf_of ps n) c → (n ≡ c) × ((p : Pair) × Contains ps p)
+is_here : (ps : List Posting) (n c : ℕ) → Contains (leaf_of ps n) c → (n ≡ c) × ((p : Posting) × Contains ps p)
 is_here [] n c h = absurd (omega (arith, h.1))
 is_here (x ∷ ps) n c (zero, w, e) = (e, (x, (0, omega arith, refl)))
 is_here (x ∷ ps) n c (suc k, w, e) = absurd (omega arith)
 
-few_here : (ps : List Pair) (n : ℕ) → length (leaf_of ps n) ≤ 1
+few_here : (ps : List Posting) (n : ℕ) → length (leaf_of ps n) ≤ 1
 few_here [] n = omega arith
 few_here (x ∷ ps) n = omega arith
 
-pub leaf_in : (ns : List Content) (k c : ℕ) (p : Pair) → c < k → Holds ns c p → Contains (leaves_before ns k) c
+pub leaf_in : (ns : List Content) (k c : ℕ) (p : Posting) → c < k → Holds ns c p → Contains (leaves_before ns k) c
 leaf_in ns zero c p w h = absurd (omega arith)
 leaf_in ns (suc k) c p w h = elim (last_or_before c k (omega arith)) [
   | inl b ↦ Contains-append_left (leaves_before ns k) (leaf_at ns k) c (leaf_in ns k c p b h)
   | inr e ↦ Contains-append_right (leaves_before ns k) (leaf_at ns k) c (subst (λ m. Contains (leaf_at ns m) c) e (here (content_at ns c).pairs c p h))
 ]
 
-pub leaf_is : (ns : List Content) (k c : ℕ) → Contains (leaves_before ns k) c → (c < k) × ((p : Pair) × Holds ns c p)
+pub leaf_is : (ns : List Content) (k c : ℕ) → Contains (leaves_before ns k) c → (c < k) × ((p : Posting) × Holds ns c p)
 leaf_is ns zero c h = absurd (omega (arith, h.1))
 leaf_is ns (suc k) c h = elim (Contains-append_cases (leaves_before ns k) (leaf_at ns k) c h) [
   | inl x ↦ (let r = leaf_is ns k c x in (omega (arith, r.0), r.1))
-  | inr x ↦ (let r = is_here (content_at ns k).pairs k c x in (omega (arith, r.0), subst (λ m. (p : Pair) × Holds ns m p) r.0 r.1))
+  | inr x ↦ (let r = is_here (content_at ns k).pairs k c x in (omega (arith, r.0), subst (λ m. (p : Posting) × Holds ns m p) r.0 r.1))
 ]
 
 pub leaves_few : (ns : List Content) (k : ℕ) → length (leaves_before ns k) ≤ k
@@ -47,7 +47,7 @@ leaves_once ns zero i j b d e = absurd (omega arith)
 leaves_once ns (suc k) i j b d e = by (leaves_once ns k) (content_at ns k).pairs b d e
   where
     by : ((i j : ℕ) → i < length (leaves_before ns k) → j < length (leaves_before ns k) → get_or (leaves_before ns k) i 0 ≡ get_or (leaves_before ns k) j 0 → i ≡ j)
-        → (ps : List Pair) → i < length (leaves_before ns k ++ leaf_of ps k) → j < length (leaves_before ns k ++ leaf_of ps k) → get_or (leaves_before ns k ++ leaf_of ps k) i 0 ≡ get_or (leaves_before ns k ++ leaf_of ps k) j 0 → i ≡ j
+        → (ps : List Posting) → i < length (leaves_before ns k ++ leaf_of ps k) → j < length (leaves_before ns k ++ leaf_of ps k) → get_or (leaves_before ns k ++ leaf_of ps k) i 0 ≡ get_or (leaves_before ns k ++ leaf_of ps k) j 0 → i ≡ j
     by before [] b d e =
         let s = append-nil (leaves_before ns k) in
         before i j (subst (λ xs. i < length xs) s b) (subst (λ xs. j < length xs) s d) (subst (λ xs. get_or xs i 0 ≡ get_or xs j 0) s e)

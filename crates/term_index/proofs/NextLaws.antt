@@ -6,7 +6,7 @@ use Rattle.term_index.specs.declared.view.View.{View}
 use Rattle.term_index.specs.declared.label.Label.{Label}
 use Rattle.term_index.specs.declared.node.Edge.{Edge}
 use Rattle.term_index.specs.Labels.{arity_of}
-use Rattle.term_index.specs.Pairs.{Pair}
+use Rattle.term_index.specs.Pairs.{Posting}
 use Rattle.term_index.specs.Paths.{PlaceLists, IsBare, IsChild, MakeTrie, Leads, Passes, Spans, Holds, Reaches, edge_at, content_at, exit_at, place_of}
 use Rattle.term_index.specs.Run.{Graph, Todo, step, run, nothing_left}
 use Rattle.term_index.specs.Nodes.{Content}
@@ -71,7 +71,7 @@ module _ (v : View) (g : Graph) (es : List Edge) (ps : PlaceLists) (ns : List Co
     apart = pairs_weaker (λ x y. x.node ≢ y.node) (AreApart v g es) ts differ n.apart;
   }
     where
-      whole : (m : ℕ) (p : Pair) → Holds ns m p → (ls : List Label) → Leads es s.node ls m → run v g ls (Some s.todo) ≡ Some nothing_left → (t : Spot) × Contains ts t × Covers v g es t m
+      whole : (m : ℕ) (p : Posting) → Holds ns m p → (ls : List Label) → Leads es s.node ls m → run v g ls (Some s.todo) ≡ Some nothing_left → (t : Spot) × Contains ts t × Covers v g es t m
       whole m p held [] l r = absurd (left (let k : s.todo ≡ nothing_left = cc in k))
       whole m p held (x ∷ ls) (c, k, l) r = by (step v g x (Some s.todo)) refl r
         where
@@ -103,7 +103,7 @@ module _ (v : View) (g : Graph) (es : List Edge) (ps : PlaceLists) (ns : List Co
         let k = are c h in
         (k.0 ++ ls, leads_append es n c m k.0 ls k.1 l, run_append v g k.0 ls (Some (0, q ∷ rest)) ∙ ap (run v g ls) (passed k.0 k.2) ∙ e)
 
-    on : (m : ℕ) (p : Pair) (ls : List Label) → Leads es n ls m → run v g ls (Some (0, q ∷ rest)) ≡ Some nothing_left → Holds ns m p → (c : ℕ) × Contains xs c × Covers v g es (exit_spot rest c) m
+    on : (m : ℕ) (p : Posting) (ls : List Label) → Leads es n ls m → run v g ls (Some (0, q ∷ rest)) ≡ Some nothing_left → Holds ns m p → (c : ℕ) × Contains xs c × Covers v g es (exit_spot rest c) m
     on m p [] l h held =
         let e : Path (ℕ × List ℕ) (0, q ∷ rest) (0, []) = cc in
         let z : length (q ∷ rest) ≡ 0 = ap (λ (t : ℕ × List ℕ). length t.1) e in
@@ -138,7 +138,7 @@ module _ (v : View) (g : Graph) (es : List Edge) (ps : PlaceLists) (ns : List Co
   exits_once n i j b d e = some_same i j (sym (a.listed n i b) ∙ ap (λ c. place_of es ps (record { begin = n; end = c })) e ∙ a.listed n j d)
 
   -- where an atom ends, below the end of another, it is that one
-  leaf_end : (c : ℕ) → Spans es 0 c → Reaches es ns c → (p : Pair) × Holds ns c p
+  leaf_end : (c : ℕ) → Spans es 0 c → Reaches es ns c → (p : Posting) × Holds ns c p
   leaf_end c (ks, k, q) (ls, m, p, l, h) =
       let full = a.whole m p h in
       let e : full.0 ++ [] ≡ ks ++ ls = append-nil full.0 ∙ one_way es a.order 0 full.0 (ks ++ ls) m full.1 (leads_append es 0 c m ks ls k l) in

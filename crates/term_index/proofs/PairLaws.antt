@@ -9,7 +9,7 @@ use Rattle.std.proofs.lemmas.List.Elements.{Contains-push_cases}
 use Rattle.std.proofs.lemmas.Bool.Decides.{Decides-eqb, nat_tests}
 use Rattle.inst_logic.specs.EqualLaws.{and_both, and_left, and_right}
 use Rattle.term_bank.proofs.Nodes.{last_or_before}
-use Rattle.term_index.specs.Pairs.{Pair, Removes}
+use Rattle.term_index.specs.Pairs.{Posting, Removes}
 use Rattle.term_index.specs.Found.{place_of, Changes, few, AreFound}
 use Rattle.term_index.specs.Nodes.{Content}
 use Rattle.term_index.specs.Paths.{content_at, Holds, KeepsPairs}
@@ -17,29 +17,29 @@ use Rattle.term_index.specs.State.{pairs_of}
 use Rattle.term_index.specs.StateLaws.{stored_held}
 use Rattle.term_index.proofs.Linking.{swapped, same_number}
 
-abbrev pair_eq : Pair → Pair → Bool
+abbrev pair_eq : Posting → Posting → Bool
 pair_eq p q = nat_eq p.0 q.0 && nat_eq p.1 q.1
 
-pair_same : (p q : Pair) → pair_eq p q ≡ true → p ≡ q
+pair_same : (p q : Posting) → pair_eq p q ≡ true → p ≡ q
 pair_same p q h =
     let x : p.0 ≡ q.0 = (Decides-eqb p.0 q.0).0 (and_left _ _ h) in
     let y : p.1 ≡ q.1 = (Decides-eqb p.1 q.1).0 (and_right (nat_eq p.0 q.0) _ h) in
     λ i. (x i, y i)
 
-pair_itself : (p : Pair) → pair_eq p p ≡ true
+pair_itself : (p : Posting) → pair_eq p p ≡ true
 pair_itself p = and_both _ _ ((Decides-eqb p.0 p.0).1 refl) ((Decides-eqb p.1 p.1).1 refl)
 
-pair_differs : (p q : Pair) → ¬ (p ≡ q) → pair_eq p q ≡ false
+pair_differs : (p q : Posting) → ¬ (p ≡ q) → pair_eq p q ≡ false
 pair_differs p q d = by (pair_eq p q) refl
   where
     by : (b : Bool) → pair_eq p q ≡ b → b ≡ false
     by true e = absurd (d (pair_same p q e))
     by false e = refl
 
-change_here : (found more : List (Pair × ℕ)) (p : Pair) (w : Option ℕ) → Changes found more p w → (q : Pair) → p ≡ q → place_of more q ≡ w
+change_here : (found more : List (Posting × ℕ)) (p : Posting) (w : Option ℕ) → Changes found more p w → (q : Posting) → p ≡ q → place_of more q ≡ w
 change_here found more p w h q e = h q ∙ ap (λ b. cond b w (place_of found q)) (ap (pair_eq p) (sym e) ∙ pair_itself p)
 
-change_other : (found more : List (Pair × ℕ)) (p : Pair) (w : Option ℕ) → Changes found more p w → (q : Pair) → ¬ (p ≡ q) → place_of more q ≡ place_of found q
+change_other : (found more : List (Posting × ℕ)) (p : Posting) (w : Option ℕ) → Changes found more p w → (q : Posting) → ¬ (p ≡ q) → place_of more q ≡ place_of found q
 change_other found more p w h q d = h q ∙ ap (λ b. cond b w (place_of found q)) (pair_differs p q d)
 
 -- one of two numbers is the smaller one
@@ -51,18 +51,18 @@ order m n = by (nat_lt n m) refl
     by false e = inl (grind (arith, nat_tests))
 
 -- a pair that is not at one of the first places, nor where the map says, is not there
-pub absent_pair : (found : List (Pair × ℕ)) (ns : List Content) (node : ℕ) (p : Pair) → AreFound found ns → ((i : ℕ) → i < few → i < length (content_at ns node).pairs → ¬ (get_or (content_at ns node).pairs i p ≡ p))
+pub absent_pair : (found : List (Posting × ℕ)) (ns : List Content) (node : ℕ) (p : Posting) → AreFound found ns → ((i : ℕ) → i < few → i < length (content_at ns node).pairs → ¬ (get_or (content_at ns node).pairs i p ≡ p))
     → ((i : ℕ) → place_of found p ≡ Some i → i < length (content_at ns node).pairs → ¬ (get_or (content_at ns node).pairs i p ≡ p)) → ¬ (Contains (content_at ns node).pairs p)
 absent_pair found ns node p old first late h = elim (order few h.0) [ inl c ↦ late h.0 (old.placed node h.0 p c h.1 h.2) h.1 h.2 | inr c ↦ first h.0 c h.1 h.2 ]
 
 -- one pair more
-pub put_found : (found more : List (Pair × ℕ)) (ns ms : List Content) (node : ℕ) (p : Pair) → ((n : ℕ) → ¬ (Holds ns n p)) → AreFound found ns → (few ≤ length (content_at ns node).pairs → Changes found more p (Some (length (content_at ns node).pairs)))
+pub put_found : (found more : List (Posting × ℕ)) (ns ms : List Content) (node : ℕ) (p : Posting) → ((n : ℕ) → ¬ (Holds ns n p)) → AreFound found ns → (few ≤ length (content_at ns node).pairs → Changes found more p (Some (length (content_at ns node).pairs)))
     → (length (content_at ns node).pairs < few → more ≡ found) → (content_at ms node).pairs ≡ (content_at ns node).pairs ++ p ∷ [] → ((n : ℕ) → ¬ (n ≡ node) → content_at ms n ≡ content_at ns n) → p.1 < 2 ^ 32 → AreFound more ms
 put_found found more ns ms node p absent old late first here others short = record {
   small = λ n q h. elim (same_number n node) [
     | inl e ↦ elim (Contains-push_cases (content_at ns node).pairs p q (subst (λ ys. Contains ys q) here (subst (λ m. Holds ms m q) e h))) [
       | inl k ↦ old.small node q k
-      | inr k ↦ subst (λ (x : Pair). x.1 < 2 ^ 32) k short
+      | inr k ↦ subst (λ (x : Posting). x.1 < 2 ^ 32) k short
     ]
     | inr d ↦ old.small n q (subst (λ (x : Content). Contains x.pairs q) (others n d) h)
   ];
@@ -72,13 +72,13 @@ put_found found more ns ms node p absent old late first here others short = reco
   ];
 }
   where
-    unmoved : (q : Pair) → ¬ (p ≡ q) → place_of more q ≡ place_of found q
+    unmoved : (q : Posting) → ¬ (p ≡ q) → place_of more q ≡ place_of found q
     unmoved q d = elim (order few (length (content_at ns node).pairs)) [ inl c ↦ change_other found more p (Some (length (content_at ns node).pairs)) (late c) q d | inr c ↦ ap (λ xs. place_of xs q) (first c) ]
 
-    before : (i : ℕ) (q : Pair) (n : ℕ) → few ≤ i → i < length (content_at ns n).pairs → get_or (content_at ns n).pairs i q ≡ q → place_of more q ≡ Some i
+    before : (i : ℕ) (q : Posting) (n : ℕ) → few ≤ i → i < length (content_at ns n).pairs → get_or (content_at ns n).pairs i q ≡ q → place_of more q ≡ Some i
     before i q n c b h = unmoved q (λ e. absent n (i, b, subst (λ x. get_or (content_at ns n).pairs i x ≡ x) (sym e) h)) ∙ old.placed n i q c b h
 
-    at : (i : ℕ) (q : Pair) → few ≤ i → i < length (content_at ms node).pairs → get_or (content_at ms node).pairs i q ≡ q → place_of more q ≡ Some i
+    at : (i : ℕ) (q : Posting) → few ≤ i → i < length (content_at ms node).pairs → get_or (content_at ms node).pairs i q ≡ q → place_of more q ≡ Some i
     at i q l b h = elim (last_or_before i (length (content_at ns node).pairs) (omega (arith, b, ap length here, length-append (content_at ns node).pairs (p ∷ [])))) [
       | inl c ↦ before i q node l c (sym (get_or-append (content_at ns node).pairs (p ∷ []) q i c) ∙ ap (λ ys. get_or ys i q) (sym here) ∙ h)
       | inr s ↦ (let e : p ≡ q = sym (get_or-append_seam (content_at ns node).pairs p [] q) ∙ ap (λ k. get_or ((content_at ns node).pairs ++ p ∷ []) k q) (sym s) ∙ ap (λ ys. get_or ys i q) (sym here) ∙ h in
@@ -86,12 +86,12 @@ put_found found more ns ms node p absent old late first here others short = reco
     ]
 
 -- one pair less: the last one takes its place
-module _ (xs ys : List Pair) (p d : Pair) (i : ℕ) (w : i < length xs) (at : get_or xs i p ≡ p) (is : ys ≡ swap_remove xs i d) (once : AllPairs ◌≢◌ xs) where
+module _ (xs ys : List Posting) (p d : Posting) (i : ℕ) (w : i < length xs) (at : get_or xs i p ≡ p) (is : ys ≡ swap_remove xs i d) (once : AllPairs ◌≢◌ xs) where
   swap : (length ys + 1 ≡ length xs) × ((k : ℕ) → k < length ys → ¬ (k ≡ i) → get_or ys k p ≡ get_or xs k p) × (i < length ys → get_or ys i p ≡ get_or xs (length ys) p)
   swap = swapped xs ys i d p w is
 
   -- each item stands at one place
-  pub one_at : (j k : ℕ) (e : Pair) → j < length xs → k < length xs → get_or xs j e ≡ get_or xs k e → j ≡ k
+  pub one_at : (j k : ℕ) (e : Posting) → j < length xs → k < length xs → get_or xs j e ≡ get_or xs k e → j ≡ k
   one_at j k e a b h = elim (same_number j k) [ inl q ↦ q | inr q ↦ absurd (apart q) ]
     where
       apart : ¬ (j ≡ k) → ⊥
@@ -125,13 +125,13 @@ module _ (xs ys : List Pair) (p d : Pair) (i : ℕ) (w : i < length xs) (at : ge
   pub swap_removes : Removes p xs ys
   swap_removes = ((i, w, at), λ q. (to q, back q))
     where
-      to : (q : Pair) → Contains ys q → Contains xs q × ¬ (q ≡ p)
+      to : (q : Posting) → Contains ys q → Contains xs q × ¬ (q ≡ p)
       to q (k, b, h) =
           let r = from k b in
           let s : get_or ys k p ≡ q = get_or_default ys k p q b ∙ h in
           ((r.0, r.1, get_or_default xs r.0 q p r.1 ∙ sym r.2 ∙ s), λ e. not_taken k b (s ∙ e))
 
-      back : (q : Pair) → Contains xs q × ¬ (q ≡ p) → Contains ys q
+      back : (q : Posting) → Contains xs q × ¬ (q ≡ p) → Contains ys q
       back q ((k, b, h), n) =
           let s : get_or xs k p ≡ q = get_or_default xs k p q b ∙ h in
           let other : ¬ (k ≡ i) = λ e. n (sym s ∙ ap (λ m. get_or xs m p) e ∙ at) in
@@ -144,10 +144,10 @@ module _ (xs ys : List Pair) (p d : Pair) (i : ℕ) (w : i < length xs) (at : ge
           below u v = elim (same_number i (length ys)) [ inl e ↦ absurd (v e) | inr e ↦ grind arith ]
 
 -- the places after that: the last pair takes the place in the map too, where that is not one of the first ones
-pub take_found : (found more : List (Pair × ℕ)) (ns ms : List Content) (node i : ℕ) (p last d : Pair) → i < length (content_at ns node).pairs → get_or (content_at ns node).pairs i p ≡ p
+pub take_found : (found more : List (Posting × ℕ)) (ns ms : List Content) (node i : ℕ) (p last d : Posting) → i < length (content_at ns node).pairs → get_or (content_at ns node).pairs i p ≡ p
     → (content_at ms node).pairs ≡ swap_remove (content_at ns node).pairs i d → ((n : ℕ) → ¬ (n ≡ node) → content_at ms n ≡ content_at ns n) → AllPairs ◌≢◌ (content_at ns node).pairs
-    → ((m n : ℕ) (q : Pair) → Holds ns m q → Holds ns n q → m ≡ n) → get_or (content_at ns node).pairs (length (content_at ns node).pairs - 1) last ≡ last
-    → (few ≤ i → (mid : List (Pair × ℕ)) × Changes found mid last (Some i) × Changes mid more p None) → (i < few → Changes found more last None) → AreFound found ns → AreFound more ms
+    → ((m n : ℕ) (q : Posting) → Holds ns m q → Holds ns n q → m ≡ n) → get_or (content_at ns node).pairs (length (content_at ns node).pairs - 1) last ≡ last
+    → (few ≤ i → (mid : List (Posting × ℕ)) × Changes found mid last (Some i) × Changes mid more p None) → (i < few → Changes found more last None) → AreFound found ns → AreFound more ms
 take_found found more ns ms node i p last d w at is others once one end late first old = record {
   small = λ n q h. elim (same_number n node) [
     | inl e ↦ old.small node q (((swap_removes (content_at ns node).pairs (content_at ms node).pairs p d i w at is once).1 q).0 (subst (λ m. Holds ms m q) e h)).0
@@ -157,13 +157,13 @@ take_found found more ns ms node i p last d w at is others once one end late fir
 }
   where
     -- a pair that is neither the one that was taken nor the last one
-    unmoved : (q : Pair) → ¬ (p ≡ q) → ¬ (last ≡ q) → place_of more q ≡ place_of found q
+    unmoved : (q : Posting) → ¬ (p ≡ q) → ¬ (last ≡ q) → place_of more q ≡ place_of found q
     unmoved q c e = elim (order few i) [
       | inl l ↦ (let m = late l in change_other m.0 more p None m.2 q c ∙ change_other found m.0 last (Some i) m.1 q e)
       | inr l ↦ change_other found more last None (first l) q e
     ]
 
-    here : (k : ℕ) (q : Pair) → few ≤ k → k < length (content_at ms node).pairs → get_or (content_at ms node).pairs k q ≡ q → place_of more q ≡ Some k
+    here : (k : ℕ) (q : Posting) → few ≤ k → k < length (content_at ms node).pairs → get_or (content_at ms node).pairs k q ≡ q → place_of more q ≡ Some k
     here k q l b h =
         let xs = (content_at ns node).pairs in
         let ys = (content_at ms node).pairs in
@@ -181,7 +181,7 @@ take_found found more ns ms node i p last d w at is others once one end late fir
               ∙ old.placed node r.0 q (omega (arith, l, x.1)) r.1 t ∙ ap Some x.1
         ]
 
-    placed : (n k : ℕ) (q : Pair) → few ≤ k → k < length (content_at ms n).pairs → get_or (content_at ms n).pairs k q ≡ q → place_of more q ≡ Some k
+    placed : (n k : ℕ) (q : Posting) → few ≤ k → k < length (content_at ms n).pairs → get_or (content_at ms n).pairs k q ≡ q → place_of more q ≡ Some k
     placed n k q l b h = elim (same_number n node) [
       | inl e ↦ here k q l (subst (λ m. k < length (content_at ms m).pairs) e b) (subst (λ m. get_or (content_at ms m).pairs k q ≡ q) e h)
       | inr s ↦ (let b' : k < length (content_at ns n).pairs = subst (λ (x : Content). k < length x.pairs) (others n s) b in
@@ -191,12 +191,12 @@ take_found found more ns ms node i p last d w at is others once one end late fir
     ]
 
 -- the same with the same pairs
-pub found_kept : (found : List (Pair × ℕ)) (ns ms : List Content) → KeepsPairs ns ms → AreFound found ns → AreFound found ms
+pub found_kept : (found : List (Posting × ℕ)) (ns ms : List Content) → KeepsPairs ns ms → AreFound found ns → AreFound found ms
 found_kept found ns ms same old = record {
   small = λ n p h. old.small n p (subst (λ xs. Contains xs p) (same n) h);
   placed = λ n i p c w h. old.placed n i p c (subst (λ xs. i < length xs) (same n) w) (subst (λ xs. get_or xs i p ≡ p) (same n) h);
 }
 
 -- no pair has an entry that does not fit
-pub too_large : (found : List (Pair × ℕ)) (ns : List Content) (p : Pair) → AreFound found ns → 2 ^ 32 ≤ p.1 → ¬ (Contains (pairs_of ns) p)
+pub too_large : (found : List (Posting × ℕ)) (ns : List Content) (p : Posting) → AreFound found ns → 2 ^ 32 ≤ p.1 → ¬ (Contains (pairs_of ns) p)
 too_large found ns p old large h = let k = stored_held ns p h in omega (arith, large, old.small k.0 p k.2)

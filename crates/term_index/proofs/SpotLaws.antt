@@ -6,7 +6,7 @@ use Rattle.std.proofs.Math.Seq.{get_or-append_right}
 use Rattle.std.proofs.lemmas.Bool.{cases_lt}
 use Rattle.std.proofs.lemmas.List.Elements.{Contains-append_left, Contains-append_right, Contains-append_cases, Contains-get_or}
 use Rattle.term_index.specs.declared.view.View.{View}
-use Rattle.term_index.specs.Pairs.{Pair}
+use Rattle.term_index.specs.Pairs.{Posting}
 use Rattle.term_index.specs.Rows.{Comes as After}
 use Rattle.term_index.proofs.RowLemmas.{comes_next}
 use Rattle.term_index.specs.declared.node.Edge.{Edge}
@@ -80,7 +80,7 @@ module _ (v : View) (g : Graph) (es : List Edge) (ps : PlaceLists) (ns : List Co
   }
 
   -- what comes stays the same
-  pub comes_on : (front : List Spot) (s : Spot) (ts : List Spot) (leaf place : ℕ) → AreNext v g es ns s ts → (p : Pair)
+  pub comes_on : (front : List Spot) (s : Spot) (ts : List Spot) (leaf place : ℕ) → AreNext v g es ns s ts → (p : Posting)
       → Comes v g es ns (front ++ ts) leaf place p ↔ Comes v g es ns (front ++ s ∷ []) leaf place p
   comes_on front s ts leaf place n p = (to, from)
     where
@@ -101,7 +101,7 @@ module _ (v : View) (g : Graph) (es : List Edge) (ps : PlaceLists) (ns : List Co
       from (inr (m, t, c, h, k)) = elim (Contains-append_cases front (s ∷ []) t c)
           [ inl q ↦ inr (m, t, Contains-append_left front ts t q, h, k) | inr q ↦ last m t q h k ]
 
-  pub comes_leaf : (front : List Spot) (s : Spot) (leaf place : ℕ) → s.todo ≡ nothing_left → length (content_at ns leaf).pairs ≤ place → (p : Pair)
+  pub comes_leaf : (front : List Spot) (s : Spot) (leaf place : ℕ) → s.todo ≡ nothing_left → length (content_at ns leaf).pairs ≤ place → (p : Posting)
       → Comes v g es ns front s.node 0 p ↔ Comes v g es ns (front ++ s ∷ []) leaf place p
   comes_leaf front s leaf place e over p = (to, from)
     where
@@ -120,8 +120,8 @@ module _ (v : View) (g : Graph) (es : List Edge) (ps : PlaceLists) (ns : List Co
       from (inr (m, t, c, h, k)) = elim (Contains-append_cases front (s ∷ []) t c) [ inl q ↦ inr (m, t, q, h, k) | inr q ↦ last m t q h k ]
 
   -- the pair at the place is given
-  pub comes_given : (spots : List Spot) (leaf place : ℕ) (p : Pair) → IsWalk v g es spots leaf → place < length (content_at ns leaf).pairs → get_or (content_at ns leaf).pairs place p ≡ p
-      → (q : Pair) → Comes v g es ns spots leaf (place + 1) q ↔ (Comes v g es ns spots leaf place q × ¬ (q ≡ p))
+  pub comes_given : (spots : List Spot) (leaf place : ℕ) (p : Posting) → IsWalk v g es spots leaf → place < length (content_at ns leaf).pairs → get_or (content_at ns leaf).pairs place p ≡ p
+      → (q : Posting) → Comes v g es ns spots leaf (place + 1) q ↔ (Comes v g es ns spots leaf place q × ¬ (q ≡ p))
   comes_given spots leaf place p w h e q = (to, from)
     where
       step_on : (After (content_at ns leaf).pairs (place + 1) q → After (content_at ns leaf).pairs place q × ¬ (q ≡ p)) × (After (content_at ns leaf).pairs place q × ¬ (q ≡ p) → After (content_at ns leaf).pairs (place + 1) q)

@@ -6,7 +6,7 @@ use Rattle.inst_logic.specs.Tree.{Tree}
 use Rattle.term_bank.specs.Forest.{Forest, tree_at}
 use Rattle.term_index.specs.declared.view.View.{View}
 use Rattle.term_index.specs.Views.{Stands}
-use Rattle.term_index.specs.Pairs.{Pair, IsAsked}
+use Rattle.term_index.specs.Pairs.{Posting, IsAsked}
 use Rattle.term_index.specs.declared.label.Label.{Label}
 use Rattle.term_index.specs.declared.node.Edge.{Edge}
 use Rattle.term_index.specs.declared.walk.Cell.{Cell}
@@ -106,7 +106,7 @@ module _ (f : Forest) (v : View) (query : ℕ) (g : Graph) (es : List Edge) (ps 
   begun_walking cells stack leaf place h = subst (λ cs. IsWalking v g es ns cs stack leaf) (sym h.0) (subst (λ l. IsWalking v g es ns [] stack l) (sym h.1) (begun_walk stack h.3))
 
   module _ (stored : IsStored f es ns) where
-    wide_come : (stack : List Frame) (place : ℕ) → length (content_at ns 0).pairs ≤ place → IsAtRoot stack → (p : Pair)
+    wide_come : (stack : List Frame) (place : ℕ) → length (content_at ns 0).pairs ≤ place → IsAtRoot stack → (p : Posting)
         → WalkComes v g es ns [] stack 0 place p → Contains (pairs_of ns) p × IsWide v (tree_at f p.0) (tree_at f query)
     wide_come stack place over h p (inl (i, k, w, e)) = absurd (omega arith)
     wide_come stack place over h p (inr (m, s, c, cover, held)) =
@@ -116,7 +116,7 @@ module _ (f : Forest) (v : View) (query : ℕ) (g : Graph) (es : List Edge) (ps 
               (covered_meets (tree_at f p.0) m r.2 r.1 (subst (λ x. Covers v g es x m) (begun_spots stack h s c) cover)),
         )
 
-    all_come : (stack : List Frame) (place : ℕ) → IsAtRoot stack → (p : Pair) → Contains (pairs_of ns) p → meets v (tree_at f p.0) (tree_at f query) ≡ true
+    all_come : (stack : List Frame) (place : ℕ) → IsAtRoot stack → (p : Posting) → Contains (pairs_of ns) p → meets v (tree_at f p.0) (tree_at f query) ≡ true
         → WalkComes v g es ns [] stack 0 place p
     all_come stack place (inl (z, e)) p c same =
         let h = stored_held ns p c in
@@ -142,7 +142,7 @@ module _ (f : Forest) (v : View) (query : ℕ) (g : Graph) (es : List Edge) (ps 
         }))
 
     -- every wide pair comes
-    begun_exact : (cells : List Cell) (stack : List Frame) (leaf place : ℕ) → IsBegun ns cells stack leaf place → (p : Pair) → Contains (pairs_of ns) p → IsWide v (tree_at f p.0) (tree_at f query) → WalkComes v g es ns cells stack leaf place p
+    begun_exact : (cells : List Cell) (stack : List Frame) (leaf place : ℕ) → IsBegun ns cells stack leaf place → (p : Posting) → Contains (pairs_of ns) p → IsWide v (tree_at f p.0) (tree_at f query) → WalkComes v g es ns cells stack leaf place p
     begun_exact cells stack leaf place h p c wide =
         subst (λ cs. WalkComes v g es ns cs stack leaf place p) (sym h.0) (subst (λ l. WalkComes v g es ns [] stack l place p) (sym h.1) (all_come stack place h.3 p c (wide_meets v (tree_at f p.0) (tree_at f query) wide)))
 
@@ -157,12 +157,12 @@ module _ (f : Forest) (v : View) (query : ℕ) (g : Graph) (es : List Edge) (ps 
   }))
 
   -- gives nothing,
-  over_comes : (place : ℕ) → length (content_at ns 0).pairs ≤ place → (p : Pair) → WalkComes v g es ns [] [] 0 place p → ⊥
+  over_comes : (place : ℕ) → length (content_at ns 0).pairs ≤ place → (p : Posting) → WalkComes v g es ns [] [] 0 place p → ⊥
   over_comes place over p (inl (i, k, w, e)) = omega arith
   over_comes place over p (inr (m, s, c, cover, held)) = omega (arith, c.1)
 
   -- since nothing is stored
-  over_holds : (stack : List Frame) → stack ≡ [] → (IsBare (content_at ns 0) × (stack ≡ [])) ⊎ (¬ (IsBare (content_at ns 0)) × (stack ≡ root_frame ∷ [])) → (p : Pair) → Contains (pairs_of ns) p → ⊥
+  over_holds : (stack : List Frame) → stack ≡ [] → (IsBare (content_at ns 0) × (stack ≡ [])) ⊎ (¬ (IsBare (content_at ns 0)) × (stack ≡ root_frame ∷ [])) → (p : Posting) → Contains (pairs_of ns) p → ⊥
   over_holds stack e (inl (z, none)) p c =
       let h = stored_held ns p c in
       let s = a.whole h.0 p h.2 in
@@ -192,7 +192,7 @@ module _ (f : Forest) (v : View) (query : ℕ) (g : Graph) (es : List Edge) (ps 
   started_asked cells stack leaf place (inr e) stored h = over_asked cells stack leaf place e.0 h
 
   pub started_exact : (cells : List Cell) (stack : List Frame) (leaf place : ℕ) → IsQueryOf f query stack g → IsStored f es ns → IsBegun ns cells stack leaf place
-      → (p : Pair) → Contains (pairs_of ns) p → IsWide v (tree_at f p.0) (tree_at f query) → WalkComes v g es ns cells stack leaf place p
+      → (p : Posting) → Contains (pairs_of ns) p → IsWide v (tree_at f p.0) (tree_at f query) → WalkComes v g es ns cells stack leaf place p
   started_exact cells stack leaf place (inl copy) stored h = begun_exact f v query g es ps ns a copy stored cells stack leaf place h
   started_exact cells stack leaf place (inr e) stored h = λ p c wide. absurd (over_holds stack e.0 h.3 p c)
 

@@ -4,7 +4,7 @@ use Rattle.std.specs.Prelude.{AllPairs}
 use Rattle.std.proofs.lemmas.List.Elements.{Contains-append_left, Contains-push, Contains-push_cases}
 use Rattle.std.proofs.lemmas.List.Quantifiers.{all_pairs_push}
 use Rattle.term_bank.specs.Forest.{Forest, tree_at}
-use Rattle.term_index.specs.Pairs.{Pair, Adds, Removes}
+use Rattle.term_index.specs.Pairs.{Posting, Adds, Removes}
 use Rattle.term_index.specs.declared.node.Edge.{Edge}
 use Rattle.term_index.specs.Nodes.{Content, no_content}
 use Rattle.term_index.specs.Labels.{labels}
@@ -45,12 +45,12 @@ module _ (node : ℕ) (ns ms : List Content) (ch : ChangesAt node ns ms) where
   same_exits n = elim (same_number n node)
       [ inl e ↦ subst (λ m. (content_at ms m).exits ≡ (content_at ns m).exits) (sym e) ch.exits | inr d ↦ ap (λ (c : Content). c.exits) (ch.others n d) ]
 
-  others_held : (n : ℕ) (p : Pair) → ¬ (n ≡ node) → Holds ms n p → Holds ns n p
+  others_held : (n : ℕ) (p : Posting) → ¬ (n ≡ node) → Holds ms n p → Holds ns n p
   others_held n p d h = subst (λ (c : Content). Contains c.pairs p) (ch.others n d) h
 
   -- pairs that were there, or one more that was nowhere, at a node to which all exits are listed
-  pub changed_trie : (es : List Edge) (ps : PlaceLists) → MakeTrie es ps ns → AllPairs ◌≢◌ (content_at ms node).pairs → ((p : Pair) → Holds ms node p → (Holds ns node p) ⊎ ((n : ℕ) → ¬ (Holds ns n p)))
-      → (IsLinked es ns node × Spans es 0 node) ⊎ ((p : Pair) → Holds ms node p → Holds ns node p) → MakeTrie es ps ms
+  pub changed_trie : (es : List Edge) (ps : PlaceLists) → MakeTrie es ps ns → AllPairs ◌≢◌ (content_at ms node).pairs → ((p : Posting) → Holds ms node p → (Holds ns node p) ⊎ ((n : ℕ) → ¬ (Holds ns n p)))
+      → (IsLinked es ns node × Spans es 0 node) ⊎ ((p : Posting) → Holds ms node p → Holds ns node p) → MakeTrie es ps ms
   changed_trie es ps a once from way = record {
     count = λ h. ch.len ∙ a.count (omega (arith, ch.len));
     none = λ h. a.none (omega (arith, ch.len));
@@ -66,10 +66,10 @@ module _ (node : ℕ) (ns ms : List Content) (ch : ChangesAt node ns ms) where
     one_place = place;
   }
     where
-      apart : (n : ℕ) (p : Pair) → ¬ (n ≡ node) → Holds ms node p → Holds ms n p → ⊥
+      apart : (n : ℕ) (p : Posting) → ¬ (n ≡ node) → Holds ms node p → Holds ms n p → ⊥
       apart n p d h k = elim (from p h) [ inl j ↦ d (a.one_place n node p (others_held n p d k) j) | inr j ↦ j n (others_held n p d k) ]
 
-      linked : (n c : ℕ) → Crosses es n c → (ls : List Label) (m : ℕ) (p : Pair) → Leads es c ls m → Holds ms m p → Exits ns n c
+      linked : (n c : ℕ) → Crosses es n c → (ls : List Label) (m : ℕ) (p : Posting) → Leads es c ls m → Holds ms m p → Exits ns n c
       linked n c k ls m p l h = elim (same_number m node) [
         | inl e ↦ elim way [
           | inl up ↦ up.0 n c ls k (subst (λ x. Leads es c ls x) e l)
@@ -78,13 +78,13 @@ module _ (node : ℕ) (ns ms : List Content) (ch : ChangesAt node ns ms) where
         | inr d ↦ a.linked n c k (ls, m, p, l, others_held m p d h)
       ]
 
-      whole : (n : ℕ) (p : Pair) → Holds ms n p → Spans es 0 n
+      whole : (n : ℕ) (p : Posting) → Holds ms n p → Spans es 0 n
       whole n p h = elim (same_number n node) [
         | inl e ↦ subst (λ x. Spans es 0 x) (sym e) (elim way [ inl up ↦ up.1 | inr f ↦ a.whole node p (f p (subst (λ x. Holds ms x p) e h)) ])
         | inr d ↦ a.whole n p (others_held n p d h)
       ]
 
-      place : (m n : ℕ) (p : Pair) → Holds ms m p → Holds ms n p → m ≡ n
+      place : (m n : ℕ) (p : Posting) → Holds ms m p → Holds ms n p → m ≡ n
       place m n p h k = elim (same_number m node) [
         | inl e ↦ elim (same_number n node)
             [ inl i ↦ e ∙ sym i | inr i ↦ absurd (apart n p i (subst (λ x. Holds ms x p) e h) k) ]
@@ -92,12 +92,12 @@ module _ (node : ℕ) (ns ms : List Content) (ch : ChangesAt node ns ms) where
             [ inl i ↦ absurd (apart m p d (subst (λ x. Holds ms x p) i k) h) | inr i ↦ a.one_place m n p (others_held m p d h) (others_held n p i k) ]
       ]
 
-  held_back : (n : ℕ) (p : Pair) → ¬ (n ≡ node) → Holds ns n p → Holds ms n p
+  held_back : (n : ℕ) (p : Posting) → ¬ (n ≡ node) → Holds ns n p → Holds ms n p
   held_back n p d h = subst (λ (c : Content). Contains c.pairs p) (sym (ch.others n d)) h
 
 -- one more pair at a node
-module _ (node : ℕ) (ns ms : List Content) (ch : ChangesAt node ns ms) (p : Pair) (more : (content_at ms node).pairs ≡ (content_at ns node).pairs ++ p ∷ []) (absent : ¬ (Contains (pairs_of ns) p)) where
-  put_cases : (q : Pair) → Holds ms node q → (Holds ns node q) ⊎ (p ≡ q)
+module _ (node : ℕ) (ns ms : List Content) (ch : ChangesAt node ns ms) (p : Posting) (more : (content_at ms node).pairs ≡ (content_at ns node).pairs ++ p ∷ []) (absent : ¬ (Contains (pairs_of ns) p)) where
+  put_cases : (q : Posting) → Holds ms node q → (Holds ns node q) ⊎ (p ≡ q)
   put_cases q h = Contains-push_cases (content_at ns node).pairs p q (subst (λ xs. Contains xs q) more h)
 
   pub put_trie : (es : List Edge) (ps : PlaceLists) → MakeTrie es ps ns → IsLinked es ns node → Spans es 0 node → MakeTrie es ps ms
@@ -130,13 +130,13 @@ module _ (node : ℕ) (ns ms : List Content) (ch : ChangesAt node ns ms) (p : Pa
     | inl e ↦ elim (put_cases q (subst (λ m. Holds ms m q) e k)) [
       | inl j ↦ subst (λ m. (q.0 < length f.trees) × Leads es 0 (labels f (tree_at f q.0)) m × IsNumbered f (tree_at f q.0)) (sym e) (h node q j)
       | inr i ↦ subst (λ m. (q.0 < length f.trees) × Leads es 0 (labels f (tree_at f q.0)) m × IsNumbered f (tree_at f q.0)) (sym e)
-          (subst (λ (x : Pair). (x.0 < length f.trees) × Leads es 0 (labels f (tree_at f x.0)) node × IsNumbered f (tree_at f x.0)) i (w, leads, num))
+          (subst (λ (x : Posting). (x.0 < length f.trees) × Leads es 0 (labels f (tree_at f x.0)) node × IsNumbered f (tree_at f x.0)) i (w, leads, num))
     ]
     | inr d ↦ h n q (others_held node ns ms ch n q d k)
   ]
 
 -- one pair less at a node
-module _ (node : ℕ) (ns ms : List Content) (ch : ChangesAt node ns ms) (p : Pair) (less : Removes p (content_at ns node).pairs (content_at ms node).pairs) where
+module _ (node : ℕ) (ns ms : List Content) (ch : ChangesAt node ns ms) (p : Posting) (less : Removes p (content_at ns node).pairs (content_at ms node).pairs) where
   pub take_trie : (es : List Edge) (ps : PlaceLists) → MakeTrie es ps ns → AllPairs ◌≢◌ (content_at ms node).pairs → MakeTrie es ps ms
   take_trie es ps a once = changed_trie node ns ms ch es ps a once (λ q h. inl ((less.1 q).0 h).0) (inr (λ q h. ((less.1 q).0 h).0))
 
@@ -147,20 +147,20 @@ module _ (node : ℕ) (ns ms : List Content) (ch : ChangesAt node ns ms) (p : Pa
   pub take_removes : (es : List Edge) (ps : PlaceLists) → MakeTrie es ps ns → Removes p (pairs_of ns) (pairs_of ms)
   take_removes es ps a = (held_stored ns node p less.0, λ q. (to q, from q))
     where
-      to : (q : Pair) → Contains (pairs_of ms) q → Contains (pairs_of ns) q × ¬ (q ≡ p)
+      to : (q : Posting) → Contains (pairs_of ms) q → Contains (pairs_of ns) q × ¬ (q ≡ p)
       to q h = let r = stored_held ms q h in
           elim (same_number r.0 node) [
             | inl e ↦ (let k = (less.1 q).0 (subst (λ n. Holds ms n q) e r.2) in (held_stored ns node q k.0, k.1))
             | inr d ↦ (let k = others_held node ns ms ch r.0 q d r.2 in (held_stored ns r.0 q k, λ e. d (a.one_place r.0 node q k (subst (Holds ns node) (sym e) less.0))))
           ]
 
-      from : (q : Pair) → Contains (pairs_of ns) q × ¬ (q ≡ p) → Contains (pairs_of ms) q
+      from : (q : Posting) → Contains (pairs_of ns) q × ¬ (q ≡ p) → Contains (pairs_of ms) q
       from q h = let r = stored_held ns q h.0 in
           elim (same_number r.0 node)
           [ inl e ↦ held_stored ms node q ((less.1 q).1 (subst (λ n. Holds ns n q) e r.2, h.1)) | inr d ↦ held_stored ms r.0 q (held_back node ns ms ch r.0 q d r.2) ]
 
 -- a pair that is not at the node of its atom is nowhere
-pub absent_there : (f : Forest) (es : List Edge) (ns : List Content) → IsIndexed es → IsStored f es ns → (p : Pair) (node : ℕ) → Leads es 0 (labels f (tree_at f p.0)) node → ¬ (Holds ns node p) → ¬ (Contains (pairs_of ns) p)
+pub absent_there : (f : Forest) (es : List Edge) (ns : List Content) → IsIndexed es → IsStored f es ns → (p : Posting) (node : ℕ) → Leads es 0 (labels f (tree_at f p.0)) node → ¬ (Holds ns node p) → ¬ (Contains (pairs_of ns) p)
 absent_there f es ns once h p node leads gone c =
     let r = stored_held ns p c in
     let k = h r.0 p r.2 in
@@ -168,7 +168,7 @@ absent_there f es ns once h p node leads gone c =
     gone (subst (λ n. Holds ns n p) e r.2)
 
 -- and one whose atom leads nowhere is nowhere
-pub absent_nowhere : (f : Forest) (es : List Edge) (ns : List Content) → IsStored f es ns → (p : Pair) → ((n : ℕ) → ¬ (Leads es 0 (labels f (tree_at f p.0)) n)) → ¬ (Contains (pairs_of ns) p)
+pub absent_nowhere : (f : Forest) (es : List Edge) (ns : List Content) → IsStored f es ns → (p : Posting) → ((n : ℕ) → ¬ (Leads es 0 (labels f (tree_at f p.0)) n)) → ¬ (Contains (pairs_of ns) p)
 absent_nowhere f es ns h p nowhere c = let r = stored_held ns p c in nowhere r.0 (h r.0 p r.2).1
 
 -- a root in an empty tree
@@ -193,7 +193,7 @@ rooted_trie es ps ns ms z e a = record {
     len : length ms ≡ 1
     len = ap length e ∙ length-append ns (no_content ∷ []) ∙ ap (λ n. n + 1) z
 
-    held : (n : ℕ) (p : Pair) → Holds ms n p → Holds ns n p
+    held : (n : ℕ) (p : Posting) → Holds ms n p → Holds ns n p
     held n p h = subst (λ (c : Content). Contains c.pairs p) (same n) h
 
 pub rooted_pairs : (ns ms : List Content) → ms ≡ ns ++ no_content ∷ [] → KeepsPairs ns ms
@@ -208,7 +208,7 @@ held_pairs node ns ms others same n = elim (same_number n node)
     [ inl e ↦ subst (λ m. (content_at ms m).pairs ≡ (content_at ns m).pairs) (sym e) same | inr d ↦ ap (λ (c : Content). c.pairs) (others n d) ]
 
 -- what was taken or was not there
-module _ (node : ℕ) (ns ms : List Content) (ch : ChangesAt node ns ms) (p : Pair) (r : Bool) (there : r ≡ true → Removes p (content_at ns node).pairs (content_at ms node).pairs)
+module _ (node : ℕ) (ns ms : List Content) (ch : ChangesAt node ns ms) (p : Posting) (r : Bool) (there : r ≡ true → Removes p (content_at ns node).pairs (content_at ms node).pairs)
     (absent : r ≡ false → (¬ (Contains (content_at ns node).pairs p)) × ((content_at ms node).pairs ≡ (content_at ns node).pairs)) where
   same_pairs : r ≡ false → KeepsPairs ns ms
   same_pairs e = held_pairs node ns ms ch.others (absent e).1

@@ -3,7 +3,7 @@ use Rattle.std.proofs.Common.{◌≡◌, ◌≢◌, ◌<◌, ◌≤◌, ◌+◌,
 use Rattle.std.proofs.lemmas.List.Elements.{All-append, All-head, All-tail, All-take, All-contains, Contains-append_cases, Contains-get_or}
 use Rattle.std.proofs.lemmas.List.{take-append-drop, get_or-take, length-take-le, map-append}
 use Rattle.term_index.specs.declared.view.View.{View}
-use Rattle.term_index.specs.Pairs.{Pair, Gives, IsOver}
+use Rattle.term_index.specs.Pairs.{Posting, Gives, IsOver}
 use Rattle.term_index.specs.declared.node.Edge.{Edge}
 use Rattle.term_index.specs.declared.walk.Cell.{Cell}
 use Rattle.term_index.specs.declared.walk.Frame.{Frame}
@@ -207,8 +207,8 @@ module _ (v : View) (g : Graph) (es : List Edge) (ps : PlaceLists) (ns : List Co
     }
 
   -- the pair at the place is the next one
-  pub gives_at : (cs : List Cell) (st : List Frame) (leaf place atom entry : ℕ) (before : Pair → Type 0) → IsWalking v g es ns cs st leaf → place < length (content_at ns leaf).pairs
-      → get_or (content_at ns leaf).pairs place (atom, entry) ≡ (atom, entry) → ((p : Pair) → WalkComes v g es ns cs st leaf place p ↔ before p) → Gives before entry (WalkComes v g es ns cs st leaf (place + 1))
+  pub gives_at : (cs : List Cell) (st : List Frame) (leaf place atom entry : ℕ) (before : Posting → Type 0) → IsWalking v g es ns cs st leaf → place < length (content_at ns leaf).pairs
+      → get_or (content_at ns leaf).pairs place (atom, entry) ≡ (atom, entry) → ((p : Posting) → WalkComes v g es ns cs st leaf place p ↔ before p) → Gives before entry (WalkComes v g es ns cs st leaf (place + 1))
   gives_at cs st leaf place atom entry before w h e same = (
     atom,
     (same (atom, entry)).0 (inl (place, omega arith, h, e)),
@@ -217,12 +217,12 @@ module _ (v : View) (g : Graph) (es : List Edge) (ps : PlaceLists) (ns : List Co
   )
 
   -- nothing comes from no frames
-  nothing_comes : (cs : List Cell) (st : List Frame) (leaf place : ℕ) → st ≡ [] → length (content_at ns leaf).pairs ≤ place → (p : Pair) → WalkComes v g es ns cs st leaf place p → ⊥
+  nothing_comes : (cs : List Cell) (st : List Frame) (leaf place : ℕ) → st ≡ [] → length (content_at ns leaf).pairs ≤ place → (p : Posting) → WalkComes v g es ns cs st leaf place p → ⊥
   nothing_comes cs st leaf place e over p (inl (i, k, h, r)) = omega arith
   nothing_comes cs st leaf place e over p (inr (m, s, c, h, k)) = let n : length (map (spot g cs) st) ≡ 0 = ap (λ xs. length (map (spot g cs) xs)) e in omega (arith, n, c.1)
 
-  pub over_at : (cs : List Cell) (st : List Frame) (leaf place : ℕ) (before : Pair → Type 0) → st ≡ [] → length (content_at ns leaf).pairs ≤ place → ((p : Pair) → WalkComes v g es ns cs st leaf place p ↔ before p)
-      → ((q : Pair) → ¬ (before q)) × ((q : Pair) → ¬ (WalkComes v g es ns cs st leaf place q))
+  pub over_at : (cs : List Cell) (st : List Frame) (leaf place : ℕ) (before : Posting → Type 0) → st ≡ [] → length (content_at ns leaf).pairs ≤ place → ((p : Posting) → WalkComes v g es ns cs st leaf place p ↔ before p)
+      → ((q : Posting) → ¬ (before q)) × ((q : Posting) → ¬ (WalkComes v g es ns cs st leaf place q))
   over_at cs st leaf place before e over same = ((λ q b. nothing_comes cs st leaf place e over q ((same q).1 b)), nothing_comes cs st leaf place e over)
 
   pub most_given : (st : List Frame) (leaf place : ℕ) → place < length (content_at ns leaf).pairs → most_of ns st leaf (place + 1) < most_of ns st leaf place

@@ -1,7 +1,7 @@
 -- The frames of a walk as spots.
 use Rattle.std.specs.Prelude.{◌≡◌, ◌<◌, ◌≤◌, ◌-◌, ◌+◌, ℕ, zero, suc, List, [], ◌++◌, length, slice_index_or, take, drop, All, AllPairs, map, ◌∷◌, ◌⊎◌}
 use Rattle.term_index.specs.declared.view.View.{View}
-use Rattle.term_index.specs.Pairs.{Pair}
+use Rattle.term_index.specs.Pairs.{Posting}
 use Rattle.term_index.specs.declared.label.Label.{Label}
 use Rattle.term_index.specs.declared.node.Edge.{Edge}
 use Rattle.term_index.specs.Labels.{arity_of}
@@ -62,7 +62,7 @@ abbrev pub IsSettled : Frame → Type 0
 IsSettled f = (f.at < f.end) ⊎ ((f.at ≡ f.end) × (f.rest ≡ 0))
 
 -- the node, where pairs end there
-abbrev pub leaf_of : List Pair → ℕ → List ℕ
+abbrev pub leaf_of : List Posting → ℕ → List ℕ
 leaf_of [] n = []
 leaf_of (p ∷ ps) n = n ∷ []
 

@@ -1,7 +1,7 @@
 -- The ways through the tree.
 use Rattle.std.specs.Prelude.{◌≡◌, ◌^◌, ℕ, zero, suc, ◌+◌, ◌-◌, ◌<◌, ◌≤◌, nat_eq, nat_lt, Bool, ◌&&◌, if◌then◌else◌, Option, Some, List, [], ◌∷◌, length, slice_get, slice_index_or, Contains, AllPairs, ◌≢◌}
 use Rattle.std.specs.Map.{lookup}
-use Rattle.term_index.specs.Pairs.{Pair}
+use Rattle.term_index.specs.Pairs.{Posting}
 use Rattle.term_index.specs.declared.label.Label.{Label}
 use Rattle.term_index.specs.declared.label.Label.TheVariants.{Variable, Symbol}
 use Rattle.term_index.specs.declared.node.Edge.{Edge}
@@ -54,12 +54,12 @@ abbrev pub content_at : List Content → ℕ → Content
 content_at ns n = slice_index_or ns n no_content
 
 -- the pair ends at the node
-abbrev pub Holds : List Content → ℕ → Pair → Type 0
+abbrev pub Holds : List Content → ℕ → Posting → Type 0
 Holds ns n p = Contains (content_at ns n).pairs p
 
 -- some pair ends at the node or below it
 abbrev pub Reaches : List Edge → List Content → ℕ → Type 0
-Reaches es ns c = (ls : List Label) × (m : ℕ) × (p : Pair) × Leads es c ls m × Holds ns m p
+Reaches es ns c = (ls : List Label) × (m : ℕ) × (p : Posting) × Leads es c ls m × Holds ns m p
 
 -- nothing ends at the node, and no exits from it are listed
 abbrev pub IsBare : Content → Type 0
@@ -100,9 +100,9 @@ pub record MakeTrie (es : List Edge) (ps : PlaceLists) (ns : List Content) : Typ
   pub listed : AreListed es ps ns
   pub exits : (n c : ℕ) → Exits ns n c → Crosses es n c
   pub linked : (n c : ℕ) → Crosses es n c → Reaches es ns c → Exits ns n c
-  pub whole : (n : ℕ) (p : Pair) → Holds ns n p → Spans es 0 n
+  pub whole : (n : ℕ) (p : Posting) → Holds ns n p → Spans es 0 n
   pub pairs_once : (n : ℕ) → AllPairs ◌≢◌ (content_at ns n).pairs
-  pub one_place : (m n : ℕ) (p : Pair) → Holds ns m p → Holds ns n p → m ≡ n
+  pub one_place : (m n : ℕ) (p : Posting) → Holds ns m p → Holds ns n p → m ≡ n
 
 -- each edge keeps its place
 abbrev pub KeepsEdges : List Edge → List Edge → Type 0

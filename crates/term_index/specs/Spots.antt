@@ -1,7 +1,7 @@
 -- The places at which a walk still has to go on, and the pairs that it still gives.
 use Rattle.std.specs.Prelude.{◌≡◌, ◌<◌, ◌≤◌, ◌⊎◌, ℕ, List, length, slice_index_or, Contains, AllPairs, Some}
 use Rattle.term_index.specs.declared.view.View.{View}
-use Rattle.term_index.specs.Pairs.{Pair}
+use Rattle.term_index.specs.Pairs.{Posting}
 use Rattle.term_index.specs.declared.label.Label.{Label}
 use Rattle.term_index.specs.declared.node.Edge.{Edge}
 use Rattle.term_index.specs.Nodes.{Content}
@@ -25,11 +25,11 @@ module _ (v : View) (g : Graph) (es : List Edge) where
   pub record AreNext (ns : List Content) (s : Spot) (ts : List Spot) : Type 0 where
     pub above : (t : Spot) → Contains ts t → s.node < t.node
     pub sound : (t : Spot) → Contains ts t → (m : ℕ) → Covers t m → Covers s m
-    pub whole : (m : ℕ) (p : Pair) → Covers s m → Holds ns m p → (t : Spot) × Contains ts t × Covers t m
+    pub whole : (m : ℕ) (p : Posting) → Covers s m → Holds ns m p → (t : Spot) × Contains ts t × Covers t m
     pub apart : AllPairs AreApart ts
 
   -- the pair is at the leaf from this place on, or at a node to which a spot leads
-  abbrev pub Comes : List Content → List Spot → ℕ → ℕ → Pair → Type 0
+  abbrev pub Comes : List Content → List Spot → ℕ → ℕ → Posting → Type 0
   Comes ns spots leaf place p =
       ((i : ℕ) × (place ≤ i) × (i < length (content_at ns leaf).pairs) × (slice_index_or (content_at ns leaf).pairs i p ≡ p))
       ⊎ ((m : ℕ) × (s : Spot) × Contains spots s × Covers s m × Holds ns m p)

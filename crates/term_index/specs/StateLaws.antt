@@ -14,19 +14,19 @@ use Rattle.term_index.specs.declared.label.Label.TheVariants.{Symbol}
 use Rattle.term_index.specs.Labels.{labels, all_labels}
 use Rattle.term_index.specs.Numbered.{IsNumbered, AreNumbered}
 use Rattle.term_index.specs.Paths.{Leads}
-use Rattle.term_index.specs.Pairs.{Pair}
+use Rattle.term_index.specs.Pairs.{Posting}
 use Rattle.term_index.specs.Nodes.{Content}
 use Rattle.term_index.specs.Paths.{Holds}
 use Rattle.term_index.specs.State.{State, pairs_of, Fits}
 
 -- a pair that a node holds is among the pairs
-pub held_stored : (ns : List Content) (n : ℕ) (p : Pair) → Holds ns n p → Contains (pairs_of ns) p
+pub held_stored : (ns : List Content) (n : ℕ) (p : Posting) → Holds ns n p → Contains (pairs_of ns) p
 held_stored [] n p h = absurd (omega (arith, h.1))
 held_stored (c ∷ ns) zero p h = Contains-append_left c.pairs (pairs_of ns) p h
 held_stored (c ∷ ns) (suc n) p h = Contains-append_right c.pairs (pairs_of ns) p (held_stored ns n p h)
 
 -- and the other way round
-pub stored_held : (ns : List Content) (p : Pair) → Contains (pairs_of ns) p → (n : ℕ) × (n < length ns) × Holds ns n p
+pub stored_held : (ns : List Content) (p : Posting) → Contains (pairs_of ns) p → (n : ℕ) × (n < length ns) × Holds ns n p
 stored_held [] p h = absurd (omega (arith, h.1))
 stored_held (c ∷ ns) p h = elim (Contains-append_cases c.pairs (pairs_of ns) p h)
     [ inl k ↦ (0, omega arith, k) | inr k ↦ (let r = stored_held ns p k in (suc r.0, omega (arith, r.1), r.2)) ]

@@ -4,7 +4,7 @@ use Rattle.term_bank.specs.Forest.{Forest}
 use Rattle.term_index.specs.declared.view.View.{View}
 use Rattle.term_index.specs.declared.trie.Trie.{Trie}
 use Rattle.term_index.specs.declared.walk.Walk.{Walk}
-use Rattle.term_index.specs.Pairs.{Pair}
+use Rattle.term_index.specs.Pairs.{Posting}
 use Rattle.term_index.specs.Paths.{MakeTrie}
 use Rattle.term_index.specs.Run.{Graph}
 use Rattle.term_index.specs.State.{IsStored}
@@ -21,7 +21,7 @@ abbrev pub IsWalkOver : View → Graph → Trie → Walk → Type 0
 IsWalkOver v g t w = IsWalking v g t.edges.keys t.nodes.items w.cells.items w.stack.items w.leaf
 
 -- the pair still comes
-abbrev pub StillComes : View → Graph → Trie → Walk → Pair → Type 0
+abbrev pub StillComes : View → Graph → Trie → Walk → Posting → Type 0
 StillComes v g t w = WalkComes v g t.edges.keys t.nodes.items w.cells.items w.stack.items w.leaf w.place
 
 -- no more pairs come than so many

@@ -1,7 +1,7 @@
 -- A walk that goes on.
 use Rattle.std.specs.Prelude.{◌↔◌, ◌<◌, ◌+◌, ◌-◌, ◌*◌, ◌^◌, ℕ, List, [], ◌∷◌, length, map}
 use Rattle.term_index.specs.declared.view.View.{View}
-use Rattle.term_index.specs.Pairs.{Pair}
+use Rattle.term_index.specs.Pairs.{Posting}
 use Rattle.term_index.specs.declared.node.Edge.{Edge}
 use Rattle.term_index.specs.declared.walk.Cell.{Cell}
 use Rattle.term_index.specs.declared.walk.Frame.{Frame}
@@ -32,11 +32,11 @@ module _ (v : View) (g : Graph) (es : List Edge) (ns : List Content) where
     pub walk : IsWalk v g es (map (spot g cs) stack) leaf
     pub marked : AreMarked stack
 
-  abbrev pub WalkComes : List Cell → List Frame → ℕ → ℕ → Pair → Type 0
+  abbrev pub WalkComes : List Cell → List Frame → ℕ → ℕ → Posting → Type 0
   WalkComes cells stack leaf place p = Comes v g es ns (map (spot g cells) stack) leaf place p
 
   -- the walk goes on to another state, from which the same pairs come
   pub record GoesOn (cells : List Cell) (stack : List Frame) (leaf place : ℕ) (ds : List Cell) (rest : List Frame) (end after : ℕ) : Type 0 where
     pub walking : IsWalking ds rest end
-    pub comes : (p : Pair) → WalkComes ds rest end after p ↔ WalkComes cells stack leaf place p
+    pub comes : (p : Posting) → WalkComes ds rest end after p ↔ WalkComes cells stack leaf place p
     pub most : most_of ns rest end after < most_of ns stack leaf place

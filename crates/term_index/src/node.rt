@@ -59,7 +59,7 @@ pub struct Lists {
 
 // What a node has. Most have one exit or one pair. In a tree none has both, since nothing follows a whole atom.
 #[derive(Drop)]
-pub enum Shape {
+pub enum NodeShape {
     Nothing,
     OneExit([u32; 1]),
     OnePair([(TermId, u32); 1]),
@@ -72,7 +72,7 @@ pub enum Shape {
 #[derive(Drop)]
 pub struct Node {
     alloc: Global,
-    shape: Shape,
+    shape: NodeShape,
 }
 
 const _: () = prove!(size_of::<Node>() == 16);
@@ -122,7 +122,7 @@ impl Node {
     {
         Node {
             alloc,
-            shape: Shape::Nothing,
+            shape: NodeShape::Nothing,
         }
     }
 
@@ -131,10 +131,10 @@ impl Node {
         ensures { result.now ≡ self.now.exits }
     {
         match &self.shape {
-            Shape::OneExit(exit) => exit,
-            Shape::Exits(all) => all.as_slice(),
-            Shape::Both(lists) => lists.exits.as_slice(),
-            Shape::Nothing | Shape::OnePair(_) | Shape::Pairs(_) => &[],
+            NodeShape::OneExit(exit) => exit,
+            NodeShape::Exits(all) => all.as_slice(),
+            NodeShape::Both(lists) => lists.exits.as_slice(),
+            NodeShape::Nothing | NodeShape::OnePair(_) | NodeShape::Pairs(_) => &[],
         }
     }
 
@@ -143,10 +143,10 @@ impl Node {
         ensures { result.now ≡ self.now.pairs }
     {
         match &self.shape {
-            Shape::OnePair(pair) => pair,
-            Shape::Pairs(all) => all.as_slice(),
-            Shape::Both(lists) => lists.pairs.as_slice(),
-            Shape::Nothing | Shape::OneExit(_) | Shape::Exits(_) => &[],
+            NodeShape::OnePair(pair) => pair,
+            NodeShape::Pairs(all) => all.as_slice(),
+            NodeShape::Both(lists) => lists.pairs.as_slice(),
+            NodeShape::Nothing | NodeShape::OneExit(_) | NodeShape::Exits(_) => &[],
         }
     }
 
@@ -156,22 +156,22 @@ impl Node {
         ensures pairs { self.new.pairs ≡ self.old.pairs }
     {
         match &mut self.shape {
-            Shape::Nothing => self.shape = Shape::OneExit([end]),
-            Shape::OneExit(exit) => {
+            NodeShape::Nothing => self.shape = NodeShape::OneExit([end]),
+            NodeShape::OneExit(exit) => {
                 let all = longer(self.alloc, exit, end)?;
-                self.shape = Shape::Exits(all);
+                self.shape = NodeShape::Exits(all);
             }
-            Shape::Exits(all) => all.push(end)?,
-            Shape::OnePair(pair) => {
+            NodeShape::Exits(all) => all.push(end)?,
+            NodeShape::OnePair(pair) => {
                 let only = pair[0];
                 let lists = lists_of(self.alloc, &[end], &[only])?;
-                self.shape = Shape::Both(lists);
+                self.shape = NodeShape::Both(lists);
             }
-            Shape::Pairs(all) => {
+            NodeShape::Pairs(all) => {
                 let lists = lists_of(self.alloc, &[end], all.as_slice())?;
-                self.shape = Shape::Both(lists);
+                self.shape = NodeShape::Both(lists);
             }
-            Shape::Both(lists) => lists.exits.push(end)?,
+            NodeShape::Both(lists) => lists.exits.push(end)?,
         }
         Ok(())
     }
@@ -183,22 +183,22 @@ impl Node {
         ensures exits { self.new.exits ≡ self.old.exits }
     {
         match &mut self.shape {
-            Shape::Nothing => self.shape = Shape::OnePair([pair]),
-            Shape::OnePair(first) => {
+            NodeShape::Nothing => self.shape = NodeShape::OnePair([pair]),
+            NodeShape::OnePair(first) => {
                 let only = first[0];
                 let all = longer(self.alloc, &[only], pair)?;
-                self.shape = Shape::Pairs(all);
+                self.shape = NodeShape::Pairs(all);
             }
-            Shape::Pairs(all) => all.push(pair)?,
-            Shape::OneExit(exit) => {
+            NodeShape::Pairs(all) => all.push(pair)?,
+            NodeShape::OneExit(exit) => {
                 let lists = lists_of(self.alloc, exit, &[pair])?;
-                self.shape = Shape::Both(lists);
+                self.shape = NodeShape::Both(lists);
             }
-            Shape::Exits(all) => {
+            NodeShape::Exits(all) => {
                 let lists = lists_of(self.alloc, all.as_slice(), &[pair])?;
-                self.shape = Shape::Both(lists);
+                self.shape = NodeShape::Both(lists);
             }
-            Shape::Both(lists) => lists.pairs.push(pair)?,
+            NodeShape::Both(lists) => lists.pairs.push(pair)?,
         }
         Ok(())
     }
@@ -210,14 +210,14 @@ impl Node {
         ensures pairs { self.new.pairs ≡ self.old.pairs }
     {
         match &mut self.shape {
-            Shape::OneExit(exit) => {
+            NodeShape::OneExit(exit) => {
                 let only = exit[0];
-                self.shape = Shape::Nothing;
+                self.shape = NodeShape::Nothing;
                 only
             }
-            Shape::Exits(all) => all.swap_remove(place),
-            Shape::Both(lists) => lists.exits.swap_remove(place),
-            Shape::Nothing | Shape::OnePair(_) | Shape::Pairs(_) => unreachable!(),
+            NodeShape::Exits(all) => all.swap_remove(place),
+            NodeShape::Both(lists) => lists.exits.swap_remove(place),
+            NodeShape::Nothing | NodeShape::OnePair(_) | NodeShape::Pairs(_) => unreachable!(),
         }
     }
 
@@ -228,14 +228,14 @@ impl Node {
         ensures exits { self.new.exits ≡ self.old.exits }
     {
         match &mut self.shape {
-            Shape::OnePair(pair) => {
+            NodeShape::OnePair(pair) => {
                 let only = pair[0];
-                self.shape = Shape::Nothing;
+                self.shape = NodeShape::Nothing;
                 only
             }
-            Shape::Pairs(all) => all.swap_remove(place),
-            Shape::Both(lists) => lists.pairs.swap_remove(place),
-            Shape::Nothing | Shape::OneExit(_) | Shape::Exits(_) => unreachable!(),
+            NodeShape::Pairs(all) => all.swap_remove(place),
+            NodeShape::Both(lists) => lists.pairs.swap_remove(place),
+            NodeShape::Nothing | NodeShape::OneExit(_) | NodeShape::Exits(_) => unreachable!(),
         }
     }
 }

@@ -1,7 +1,7 @@
 // The pairs at a node. One at a later place there has its place in a map, so that it is found among many.
 ghost use Rattle.std.specs.Prelude.{◌≡◌, ◌<◌, ◌≤◌, ◌-◌, ◌++◌, ◌∷◌, [], ℕ, List, length, slice_index_or, IfOk, OnOk, OnErr, MatchOption, Some, None, true, false, Contains, AllPairs, ◌≢◌};
 ghost use Rattle.std.specs.List.{swap_remove};
-ghost use Rattle.term_index.specs.Pairs.{Pair, Removes};
+ghost use Rattle.term_index.specs.Pairs.{Posting, Removes};
 ghost use Rattle.term_index.specs.Found.{place_of, few, Changes, AreFound};
 ghost use Rattle.term_index.specs.Paths.{content_at, Holds};
 
@@ -149,7 +149,7 @@ fn take_at(nodes: &mut Vec<Node>, node: usize, place: usize)
     requires within { node < length nodes.old.items }
     requires place { place < length (content_at nodes.old.items node).pairs }
     ensures len { length nodes.new.items ≡ length nodes.old.items }
-    ensures pairs { (d : Pair) × ((content_at nodes.new.items node).pairs ≡ swap_remove (content_at nodes.old.items node).pairs place d) }
+    ensures pairs { (d : Posting) × ((content_at nodes.new.items node).pairs ≡ swap_remove (content_at nodes.old.items node).pairs place d) }
     ensures others { (n : ℕ) → ¬ (n ≡ node) → content_at nodes.new.items n ≡ content_at nodes.old.items n }
     ensures exits { (content_at nodes.new.items node).exits ≡ (content_at nodes.old.items node).exits }
 {
@@ -166,7 +166,7 @@ fn replace(
     last: (TermId, u32),
     place: u32,
 ) -> Result<(), Memory>
-    ensures late { few ≤ place → OnOk result ((mid : List (Pair × ℕ)) × Changes found.old.entries mid last (Some place) × Changes mid found.new.entries (atom, entry) None) }
+    ensures late { few ≤ place → OnOk result ((mid : List (Posting × ℕ)) × Changes found.old.entries mid last (Some place) × Changes mid found.new.entries (atom, entry) None) }
     ensures first { place < few → OnOk result (Changes found.old.entries found.new.entries last None) }
 {
     if place < FEW {
@@ -188,7 +188,7 @@ pub fn take_pair(
 ) -> Result<bool, Memory>
     requires within { node < length nodes.old.items }
     requires once { (n : ℕ) → AllPairs ◌≢◌ (content_at nodes.old.items n).pairs }
-    requires one_place { (m n : ℕ) (p : Pair) → Holds nodes.old.items m p → Holds nodes.old.items n p → m ≡ n }
+    requires one_place { (m n : ℕ) (p : Posting) → Holds nodes.old.items m p → Holds nodes.old.items n p → m ≡ n }
     requires found { AreFound found.old.entries nodes.old.items }
     ensures len { length nodes.new.items ≡ length nodes.old.items }
     ensures there { IfOk result (λ r. r ≡ true → Removes (atom, entry) (content_at nodes.old.items node).pairs (content_at nodes.new.items node).pairs) }

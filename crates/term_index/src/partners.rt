@@ -2,7 +2,7 @@
 ghost use Rattle.std.specs.Prelude.{◌≡◌, ◌<◌, ℕ, length, Contains, IfOk};
 ghost use Rattle.term_bank.specs.Forest.{tree_at, Extends};
 ghost use Rattle.term_index.specs.Views.{Stands};
-ghost use Rattle.term_index.specs.Pairs.{Pair};
+ghost use Rattle.term_index.specs.Pairs.{Posting};
 
 use crate::found::candidates;
 use crate::index::PartnerIndex;
@@ -22,7 +22,7 @@ pub fn partners_of<I: PartnerIndex>(
 ) -> Result<Vec<usize>, Memory>
     requires within { query < length bank.old.trees }
     requires fits { I.fits bank.old index.now }
-    ensures all { IfOk result (λ entries. (p : Pair) → Contains (I.pairs index.now) p → Stands view (tree_at bank.old p.0) (tree_at bank.old query) → Contains entries.items p.1) }
+    ensures all { IfOk result (λ entries. (p : Posting) → Contains (I.pairs index.now) p → Stands view (tree_at bank.old p.0) (tree_at bank.old query) → Contains entries.items p.1) }
     ensures extends { Extends bank.old bank.new }
     ensures fits { I.fits bank.new index.now }
 {

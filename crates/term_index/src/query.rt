@@ -45,7 +45,7 @@ fn copy_args(ids: &mut Ids, numbers: &mut Vec<usize>, args: &[TermId]) -> Result
 }
 
 // The nodes of the query, each once: the first is its root, which is also the first argument.
-fn query_copy(alloc: Global, bank: &Bank, query: TermId) -> Result<Query, Memory>
+fn build_query(alloc: Global, bank: &Bank, query: TermId) -> Result<Query, Memory>
     requires { query < length bank.now.trees }
     ensures { IfOk result (IsCopyOf bank.now query) }
 {
@@ -82,5 +82,5 @@ pub fn query_of(
             args: Vec::new(alloc),
         });
     }
-    query_copy(alloc, bank, query)
+    build_query(alloc, bank, query)
 }

@@ -2,7 +2,7 @@
 ghost use Rattle.std.specs.Prelude.{◌≡◌, ◌<◌, ℕ, List, [], ◌∷◌, true, false, length, Contains, IsTrue, IsErr, IfOk, OnOk, OnErr};
 ghost use Rattle.term_bank.specs.Forest.{tree_at};
 ghost use Rattle.term_index.specs.Views.{Stands};
-ghost use Rattle.term_index.specs.Pairs.{Pair, Adds, Removes, IsAsked};
+ghost use Rattle.term_index.specs.Pairs.{Posting, Adds, Removes, IsAsked};
 ghost use Rattle.term_index.specs.Found.{AreFound};
 ghost use Rattle.term_index.specs.Paths.{PlaceLists, MakeTrie, KeepsPairs};
 ghost use Rattle.term_index.specs.Tries.{IsTrie, AreStored};
@@ -322,7 +322,7 @@ impl PartnerIndex for Tree {
         requires fits { Fits bank.now self.now }
         ensures walks { IfOk result (λ c. IsWalkOf self.now c.broken c.view c.query c.walk.cells.items c.walk.stack.items c.walk.leaf) }
         ensures asked { IfOk result (λ c. IsAsked bank.now (pairs_of self.now.nodes) (IsWide view) (Stands view) query (WalkComes c.view c.query self.now.edges self.now.nodes c.walk.cells.items c.walk.stack.items c.walk.leaf c.walk.place)) }
-        ensures exact { IfOk result (λ c. (p : Pair) → Contains (pairs_of self.now.nodes) p → IsWide view (tree_at bank.now p.0) (tree_at bank.now query) → WalkComes c.view c.query self.now.edges self.now.nodes c.walk.cells.items c.walk.stack.items c.walk.leaf c.walk.place p) }
+        ensures exact { IfOk result (λ c. (p : Posting) → Contains (pairs_of self.now.nodes) p → IsWide view (tree_at bank.now p.0) (tree_at bank.now query) → WalkComes c.view c.query self.now.edges self.now.nodes c.walk.cells.items c.walk.stack.items c.walk.leaf c.walk.place p) }
         ensures whole { IfOk result (λ c. c.broken ≡ false) }
         ensures stays_spent { IsTrue self.now.spent → IsErr result }
     {

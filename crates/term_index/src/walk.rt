@@ -59,7 +59,7 @@ pub fn bends_query(view: View) -> bool
 }
 
 // The frame of the list, beginning with an argument where it is not empty.
-fn frame_at_argument(cells: &[Cell], frame: Frame) -> Frame
+fn argument_frame(cells: &[Cell], frame: Frame) -> Frame
     requires order { frame.at ≤ frame.end }
     requires rest { frame.rest ≤ length cells.now }
     ensures same { (g : Graph) → AreCells g cells.now → spot g cells.now result ≡ spot g cells.now frame }
@@ -208,7 +208,7 @@ fn argument(query: &Query, at: usize) -> usize
     query.args[at]
 }
 
-// The number of the frame's list.
+// Saves what is left of the frame's list as a cell, and gives its number.
 fn save_list(query: &Query, cells: &mut Vec<Cell>, frame: Frame) -> Result<usize, Memory>
     requires cells { AreCells query.now cells.old.items }
     requires order { frame.at ≤ frame.end }
@@ -231,7 +231,7 @@ fn save_list(query: &Query, cells: &mut Vec<Cell>, frame: Frame) -> Result<usize
 }
 
 // The frame with the arguments of the query's node before its own list.
-fn frame_inside(
+fn inner_frame(
     query: &Query,
     cells: &mut Vec<Cell>,
     node: usize,
@@ -289,7 +289,7 @@ fn push_symbol(
     ensures stays { (walk.new.leaf ≡ walk.old.leaf) × (walk.new.place ≡ walk.old.place) }
 {
     if let Some(next) = live_child(trie, frame.node, label)? {
-        let inner = frame_inside(query, &mut walk.cells, node, frame)?;
+        let inner = inner_frame(query, &mut walk.cells, node, frame)?;
         walk.stack.push(Frame {
             node: next,
             cells: walk.cells.len(),
@@ -375,7 +375,7 @@ fn go_on(
     ensures { OnOk result (GoesOn view query.now trie.now.edges.keys trie.now.nodes.items walk.old.cells.items (walk.old.stack.items ++ frame ∷ []) walk.old.leaf walk.old.place walk.new.cells.items walk.new.stack.items walk.new.leaf walk.new.place) }
 {
     walk.cells.truncate(frame.cells);
-    let first = frame_at_argument(walk.cells.as_slice(), frame);
+    let first = argument_frame(walk.cells.as_slice(), frame);
     if is_done(first) {
         walk.leaf = first.node;
         walk.place = 0;

@@ -11,7 +11,7 @@ ghost use Rattle.tptp_load.specs.Parts.{Adds, Including, IsGathered, IsMisread, 
 ghost use Rattle.tptp_load.specs.Includes.{path_of};
 
 use crate::error::LoadError;
-use crate::paths::{Found, Site, find};
+use crate::paths::{IncludedFile, Site, find};
 use crate::stated::{StatedClause, select};
 use inst_logic::{ByteList, Memory, Name, NameList};
 use outside_io::Library;
@@ -171,7 +171,7 @@ fn add_included<L: Library>(
     ensures ok { OnOk result (Adds (L.told files.old).files (λ told. Includes told (path_of site.now.root) (Loading told (path_of site.now.root) site.now.levels) gathered.old.used site.now.name.now file.now None) gathered.old.stated.items gathered.new.stated.items gathered.new.used) }
     ensures err { IfErr result (IsPartCause (L.told files.old).files (λ told. Includes told (path_of site.now.root) (Loading told (path_of site.now.root) site.now.levels) gathered.old.used site.now.name.now file.now None) (L.told files.old).faults (L.told files.new).faults) }
 {
-    let Found { name, bytes } = find(alloc, site, file, gathered.used, files)?;
+    let IncludedFile { name, bytes } = find(alloc, site, file, gathered.used, files)?;
     let found = Site {
         root: site.root,
         levels: site.levels,

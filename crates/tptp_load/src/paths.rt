@@ -27,7 +27,7 @@ pub(crate) struct Site<'a> {
 
 /// A file that an include means.
 #[derive(Drop)]
-pub(crate) struct Found {
+pub(crate) struct IncludedFile {
     pub(crate) name: String,
     pub(crate) bytes: ByteList,
 }
@@ -92,14 +92,14 @@ fn read_one<L: Library>(
     name: String,
     used: usize,
     files: &mut L,
-) -> Result<Option<Found>, LoadError>
+) -> Result<Option<IncludedFile>, LoadError>
     requires used { used ≤ limit }
     ensures follows { Follows (L.told files.old) (L.told files.new) }
     ensures ok { IfOk result (λ found. IsFirst (L.told files.old).files (string_bytes name ∷ []) used (option_map pair_of found)) }
     ensures err { IfErr result (IsNotRead (L.told files.old).files (L.told files.old).faults (L.told files.new).faults (string_bytes name ∷ []) used) }
 {
     match read_named(alloc, name.as_str(), used, files) {
-        Ok(Some(bytes)) => Ok(Some(Found { name, bytes })),
+        Ok(Some(bytes)) => Ok(Some(IncludedFile { name, bytes })),
         Ok(None) => Ok(None),
         Err(why) => Err(why),
     }
@@ -112,7 +112,7 @@ fn read_below<L: Library>(
     wanted: &str,
     used: usize,
     files: &mut L,
-) -> Result<Option<Found>, LoadError>
+) -> Result<Option<IncludedFile>, LoadError>
     requires used { used ≤ limit }
     ensures follows { Follows (L.told files.old) (L.told files.new) }
     ensures ok { IfOk result (λ found. IsFirst (L.told files.old).files (under_root (path_of root.entry) wanted.now) used (option_map pair_of found)) }
@@ -135,7 +135,7 @@ fn read_relative<L: Library>(
     wanted: &str,
     used: usize,
     files: &mut L,
-) -> Result<Option<Found>, LoadError>
+) -> Result<Option<IncludedFile>, LoadError>
     requires used { used ≤ limit }
     ensures follows { Follows (L.told files.old) (L.told files.new) }
     ensures ok { IfOk result (λ found. IsFirst (L.told files.old).files ((directory site.now.name.now ++ wanted.now) ∷ under_root (path_of site.now.root) wanted.now) used (option_map pair_of found)) }
@@ -162,7 +162,7 @@ fn read_tries<L: Library>(
     wanted: &str,
     used: usize,
     files: &mut L,
-) -> Result<Option<Found>, LoadError>
+) -> Result<Option<IncludedFile>, LoadError>
     requires used { used ≤ limit }
     ensures follows { Follows (L.told files.old) (L.told files.new) }
     ensures ok { IfOk result (λ found. IsFirst (L.told files.old).files (tries (path_of site.now.root) site.now.name.now wanted.now) used (option_map pair_of found)) }
@@ -184,7 +184,7 @@ pub(crate) fn find<L: Library>(
     wanted: &Name,
     used: usize,
     files: &mut L,
-) -> Result<Found, LoadError>
+) -> Result<IncludedFile, LoadError>
     requires used { used ≤ limit }
     requires readable { IsTrue (is_readable_name wanted.now) }
     ensures follows { Follows (L.told files.old) (L.told files.new) }

@@ -10,7 +10,7 @@ const LIMIT: usize = 16_777_216;
 
 // How long texts are made.
 #[derive(Clone, Copy)]
-enum Shape {
+enum LongText {
     // `p(f(..f(c)..))` with so many f.
     Nested,
     // `p(c,c,..)` with so many constants behind the first one.
@@ -132,15 +132,15 @@ fn push_no_clauses(text: &mut Vec<u8>, length: usize) -> Result<(), Memory> {
     push_times(text, b" ", length.saturating_sub(10))
 }
 
-fn push_text(text: &mut Vec<u8>, shape: Shape, count: usize) -> Result<(), Memory> {
+fn push_text(text: &mut Vec<u8>, shape: LongText, count: usize) -> Result<(), Memory> {
     match shape {
-        Shape::Nested => push_nested(text, count),
-        Shape::Wide => push_wide(text, count),
-        Shape::Variables => push_variables(text, if count > 0 { b"q(Y)" } else { b"q(X0)" }),
-        Shape::Blank => push_times(text, b" ", count),
-        Shape::NoClauses => push_no_clauses(text, count),
-        Shape::Doubling => push_doubling(text, count),
-        Shape::Certified => push_certified(text, count),
+        LongText::Nested => push_nested(text, count),
+        LongText::Wide => push_wide(text, count),
+        LongText::Variables => push_variables(text, if count > 0 { b"q(Y)" } else { b"q(X0)" }),
+        LongText::Blank => push_times(text, b" ", count),
+        LongText::NoClauses => push_no_clauses(text, count),
+        LongText::Doubling => push_doubling(text, count),
+        LongText::Certified => push_certified(text, count),
     }
 }
 
@@ -148,7 +148,7 @@ fn begins_by(
     alloc: Global,
     text: &mut Vec<u8>,
     words: &str,
-    (shape, count): (Shape, usize),
+    (shape, count): (LongText, usize),
     start: &str,
 ) -> Result<bool, Memory> {
     push_text(text, shape, count)?;
@@ -158,7 +158,12 @@ fn begins_by(
 }
 
 // Whether the answer to the words begins so, where the file has this text.
-fn begins(alloc: Global, words: &str, text: (Shape, usize), start: &str) -> Result<bool, Memory> {
+fn begins(
+    alloc: Global,
+    words: &str,
+    text: (LongText, usize),
+    start: &str,
+) -> Result<bool, Memory> {
     let mut bytes = Vec::new(alloc);
     begins_by(alloc, &mut bytes, words, text, start)
 }
@@ -182,21 +187,21 @@ const TOO_LARGE: &str =
 
 fn limits_are_kept(alloc: Global) -> Result<[bool; 12], Memory> {
     Ok([
-        begins(alloc, PROVE, (Shape::Nested, 254), SATISFIABLE)?,
-        begins(alloc, PROVE, (Shape::Nested, 255), NESTING)?,
-        begins(alloc, PROVE, (Shape::Wide, 1023), SATISFIABLE)?,
-        begins(alloc, PROVE, (Shape::Wide, 1024), ARITY)?,
-        begins(alloc, PROVE, (Shape::Variables, 0), SATISFIABLE)?,
-        begins(alloc, PROVE, (Shape::Variables, 1), VARIABLES)?,
-        begins(alloc, PROVE, (Shape::Blank, LIMIT), SATISFIABLE)?,
-        begins(alloc, PROVE, (Shape::Blank, LIMIT + 1), BYTES)?,
-        begins(alloc, "|fmodel|2|n.p", (Shape::Blank, LIMIT + 1), BYTES)?,
-        begins(alloc, "|core|n.p", (Shape::Blank, LIMIT + 1), BYTES)?,
-        begins(alloc, PROVE, (Shape::Doubling, 64), TOO_LARGE)?,
+        begins(alloc, PROVE, (LongText::Nested, 254), SATISFIABLE)?,
+        begins(alloc, PROVE, (LongText::Nested, 255), NESTING)?,
+        begins(alloc, PROVE, (LongText::Wide, 1023), SATISFIABLE)?,
+        begins(alloc, PROVE, (LongText::Wide, 1024), ARITY)?,
+        begins(alloc, PROVE, (LongText::Variables, 0), SATISFIABLE)?,
+        begins(alloc, PROVE, (LongText::Variables, 1), VARIABLES)?,
+        begins(alloc, PROVE, (LongText::Blank, LIMIT), SATISFIABLE)?,
+        begins(alloc, PROVE, (LongText::Blank, LIMIT + 1), BYTES)?,
+        begins(alloc, "|fmodel|2|n.p", (LongText::Blank, LIMIT + 1), BYTES)?,
+        begins(alloc, "|core|n.p", (LongText::Blank, LIMIT + 1), BYTES)?,
+        begins(alloc, PROVE, (LongText::Doubling, 64), TOO_LARGE)?,
         begins(
             alloc,
             "|check|n.p",
-            (Shape::Certified, 100_000),
+            (LongText::Certified, 100_000),
             "0 valid Saturation\n",
         )?,
     ])
@@ -207,11 +212,11 @@ fn clauses_are_limited(alloc: Global) -> Result<[bool; 3], Memory> {
         begins(
             alloc,
             "|sat|n.p",
-            (Shape::NoClauses, LIMIT),
+            (LongText::NoClauses, LIMIT),
             "10 s SATISFIABLE\nv 0\n",
         )?,
-        begins(alloc, "|sat|n.p", (Shape::NoClauses, LIMIT + 1), BYTES)?,
-        begins(alloc, "|qbf|n.p", (Shape::NoClauses, LIMIT + 1), BYTES)?,
+        begins(alloc, "|sat|n.p", (LongText::NoClauses, LIMIT + 1), BYTES)?,
+        begins(alloc, "|qbf|n.p", (LongText::NoClauses, LIMIT + 1), BYTES)?,
     ])
 }
 

@@ -286,7 +286,7 @@ pub fn propagation_is_exact_in_any_order_of_calls(alloc: Global) -> Result<bool,
 
 // What is known of atom 1 when atom 0 of a clause of both is decided to be false.
 #[derive(Clone, Copy, Debug, PartialEq, Eq)]
-struct Known {
+struct Implication {
     conflict: Option<usize>,
     value: Option<bool>,
     reason: Option<usize>,
@@ -295,7 +295,7 @@ struct Known {
     second: Option<Lit>,
 }
 
-fn given_by(trail: &mut Trail, clauses: &mut Clauses) -> Result<Known, Memory>
+fn given_by(trail: &mut Trail, clauses: &mut Clauses) -> Result<Implication, Memory>
     requires attached { AreAttached trail.old clauses.old }
     requires below { clauses.old ≡ [] }
     requires atoms { trail.old.trail.atoms ≡ 0 }
@@ -304,7 +304,7 @@ fn given_by(trail: &mut Trail, clauses: &mut Clauses) -> Result<Known, Memory>
     add(trail, clauses, &[lit(0, true), lit(1, true)])?;
     decide(trail, clauses, lit(0, false));
     let conflict = trail.propagate(clauses)?;
-    Ok(Known {
+    Ok(Implication {
         conflict,
         value: trail.value(lit(1, true)),
         reason: trail.reason(1),
@@ -314,14 +314,14 @@ fn given_by(trail: &mut Trail, clauses: &mut Clauses) -> Result<Known, Memory>
     })
 }
 
-fn given(alloc: Global) -> Result<Known, Memory> {
+fn given(alloc: Global) -> Result<Implication, Memory> {
     let mut clauses = Clauses::new(alloc);
     let mut trail = make_trail(alloc, &clauses);
     given_by(&mut trail, &mut clauses)
 }
 
 pub fn a_decision_gives_the_other_literal(alloc: Global) -> Result<bool, Memory> {
-    let want = Known {
+    let want = Implication {
         conflict: None,
         value: Some(true),
         reason: Some(1),

@@ -5,7 +5,7 @@ use Rattle.term_bank.specs.Forest.{IsClauseOf, clause_at}
 use Rattle.term_bank.proofs.Growth.{extends_trans}
 use Rattle.term_bank.proofs.Clauses.{formed_at}
 use Rattle.cert_check.proofs.Interning.{one_more_at, one_more_in}
-use Rattle.cert_check.proofs.axioms.clauses_by_id.Goals as goal
+use Rattle.cert_check.proofs.axioms.intern_clauses.Goals as goal
 
 pub loop-c-preserved : goal.loop-c-preserved
 loop-c-preserved c =

@@ -1,7 +1,7 @@
 use Rattle.std.proofs.Common.{◌≡◌, map, take}
 use Rattle.std.specs.Prelude.{All}
 use Rattle.term_bank.specs.Forest.{AreFormed, Extends, IsClauseOf, clause_at}
-use Rattle.cert_check.proofs.axioms.clauses_by_id.Given as goal
+use Rattle.cert_check.proofs.axioms.intern_clauses.Given as goal
 
 abbrev pub invariant-loop-c : goal.invariant-loop-c
 invariant-loop-c l = record {

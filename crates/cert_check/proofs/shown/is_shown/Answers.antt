@@ -25,30 +25,30 @@ returns-in-None-get-clause-shown c =
     shown_there cert.cert c.requires.comparable.base c.args.k c.in-Some.c.now (sym c.in-Some.ensures) (covered_of cert).shown false None (by_there cert c.args.k None c.requires.number (sym c.get.ensures ∙ ap option_copied c.in-None-get.is))
     (none_shows (saturation_of cert.cert).base.members (clause_at cert.cert.base.bank c.in-Some.c.now))
 
-pub shows-requires-clause-members : goal.shows-requires-clause-members
-shows-requires-clause-members c = member_ids c.args.cert.now.cert c.requires.comparable.whole.cert
+pub justifies-requires-clause-members : goal.justifies-requires-clause-members
+justifies-requires-clause-members c = member_ids c.args.cert.now.cert c.requires.comparable.whole.cert
 
-pub shows-requires-clause-members_canonical : goal.shows-requires-clause-members_canonical
-shows-requires-clause-members_canonical c = canonical_members c.args.cert.now.cert c.requires.comparable.base
+pub justifies-requires-clause-members_canonical : goal.justifies-requires-clause-members_canonical
+justifies-requires-clause-members_canonical c = canonical_members c.args.cert.now.cert c.requires.comparable.base
 
-pub shows-requires-clause-clause : goal.shows-requires-clause-clause
-shows-requires-clause-clause c = stated_ids c.args.cert.now.cert c.requires.comparable.whole.cert c.args.k c.in-Some.c.now (sym c.in-Some.ensures)
+pub justifies-requires-clause-clause : goal.justifies-requires-clause-clause
+justifies-requires-clause-clause c = stated_ids c.args.cert.now.cert c.requires.comparable.whole.cert c.args.k c.in-Some.c.now (sym c.in-Some.ensures)
 
-pub shows-requires-clause-by : goal.shows-requires-clause-by
-shows-requires-clause-by c = whole_by_at c.args.cert.now c.requires.comparable.whole (c.args.k - 1) c.in-Some-get.by.now (sym c.get.ensures ∙ ap option_copied c.in-Some-get.is)
+pub justifies-requires-clause-by : goal.justifies-requires-clause-by
+justifies-requires-clause-by c = whole_by_at c.args.cert.now c.requires.comparable.whole (c.args.k - 1) c.in-Some-get.by.now (sym c.get.ensures ∙ ap option_copied c.in-Some-get.is)
 
 pub returns-in-Some-get-clause-whole : goal.returns-in-Some-get-clause-whole
 returns-in-Some-get-clause-whole c =
     let cert = c.args.cert.now in
-    let g = c.shows.new.bank in
-    IfOk-weaker c.shows.result _ _ (λ r h.
-    covered_whole cert (record cert.cert { base = record cert.cert.base { bank = g } }) c.requires.comparable.whole (keeps_saturation cert.cert (record cert.cert.base { bank = g }) (keeps_grown cert.cert.base g c.shows.ensures.grows.0))
-    (whole_base cert.cert.base g c.requires.comparable.whole.cert c.shows.ensures.grows.0 (c.shows.ensures.grows.1 c.requires.comparable.whole.cert.bank))) c.shows.ensures.shows
+    let g = c.justifies.new.bank in
+    IfOk-weaker c.justifies.result _ _ (λ r h.
+    covered_whole cert (record cert.cert { base = record cert.cert.base { bank = g } }) c.requires.comparable.whole (keeps_saturation cert.cert (record cert.cert.base { bank = g }) (keeps_grown cert.cert.base g c.justifies.ensures.grows.0))
+    (whole_base cert.cert.base g c.requires.comparable.whole.cert c.justifies.ensures.grows.0 (c.justifies.ensures.grows.1 c.requires.comparable.whole.cert.bank))) c.justifies.ensures.justified
 
 pub returns-in-Some-get-clause-shown : goal.returns-in-Some-get-clause-shown
 returns-in-Some-get-clause-shown c =
     let cert = c.args.cert.now in
     let f = cert.cert.base.bank in
-    IfOk-weaker c.shows.result _ _ (λ r h.
+    IfOk-weaker c.justifies.result _ _ (λ r h.
     shown_there cert.cert c.requires.comparable.base c.args.k c.in-Some.c.now (sym c.in-Some.ensures) (covered_of cert).shown r (Some (by_of f c.in-Some-get.by.now))
-    (by_there cert c.args.k (Some c.in-Some-get.by.now) c.requires.number (sym c.get.ensures ∙ ap option_copied c.in-Some-get.is)) h) c.shows.ensures.shows
+    (by_there cert c.args.k (Some c.in-Some-get.by.now) c.requires.number (sym c.get.ensures ∙ ap option_copied c.in-Some-get.is)) h) c.justifies.ensures.justified

@@ -5,7 +5,7 @@ use Rattle.inst_calculus.specs.Axioms.{with_axioms}
 use Rattle.cert_format.specs.Validity.{IsRightInput}
 use Rattle.cert_values.specs.declared.certificate.By.{By}
 use Rattle.cert_values.specs.Values.{saturation_of}
-use Rattle.cert_check.specs.Names.{ShowsInput}
+use Rattle.cert_check.specs.Names.{JustifiesInput}
 use Rattle.cert_check.proofs.InputScans.{all_inputs, first_input}
 use Rattle.cert_check.proofs.ReadyLaws.{ready_kept}
 use Rattle.cert_check.proofs.ShownSteps.{pushed_shown, shows_all, shows_more, shows_none, wrong_here}
@@ -32,10 +32,10 @@ loop-i-preserved c =
     let now = c.loop-i.cert in
     let i = c.loop-i.i in
     let s = c.shown_input.new.cert in
-    let shows = subst (λ (o : Option By). IfSome o (ShowsInput now.cert s (i + 1))) c.in-Some.is c.in_ok-shown_input.ensures.some in
+    let justified = subst (λ (o : Option By). IfSome o (JustifiesInput now.cert s (i + 1))) c.in-Some.is c.in_ok-shown_input.ensures.some in
     let right = subst (λ (o : Option By). IfSome o (λ _. IsRightInput (saturation_of now.cert) (i + 1))) c.in-Some.is c.in_ok-shown_input.ensures.right in
     pushed_shown start now s c.in-Some.by c.push.new.self (i + 1) c.in_ok-push-in-Some.ensures.ok
-    (shows_more start now i c.requires.whole c.requires.ready.base c.loop-i.invariant (omega (arith, c.loop-i-test.true, c.stated_count-i-end.ensures)) s c.in-Some.by c.shown_input.ensures.kept c.in_ok-shown_input.ensures.whole shows right)
+    (shows_more start now i c.requires.whole c.requires.ready.base c.loop-i.invariant (omega (arith, c.loop-i-test.true, c.stated_count-i-end.ensures)) s c.in-Some.by c.shown_input.ensures.kept c.in_ok-shown_input.ensures.whole justified right)
 
 pub returns-clause-first : goal.returns-clause-first
 returns-clause-first c =

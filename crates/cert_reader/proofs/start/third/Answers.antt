@@ -1,4 +1,4 @@
-use Rattle.cert_items.specs.declared.shape.Shape.{Shape}
+use Rattle.cert_items.specs.declared.shape.TextShape.{TextShape}
 use Rattle.cert_reader.proofs.Beginnings.{no_format, wrong_format, other_format, known_begun}
 use Rattle.cert_reader.proofs.start.third.Goals as goal
 
@@ -8,7 +8,7 @@ returns-in-None c text h is = no_format c.args.refutation c.args.name.now text c
 pub returns-in-Some-format_of : goal.returns-in-Some-format_of
 returns-in-Some-format_of c text h is =
     let f = c.in-Some-format_of in
-    let s : Shape = record { refutation = c.args.refutation; format = f.format } in
+    let s : TextShape = record { refutation = c.args.refutation; format = f.format } in
     known_begun s c.args.name.now text c.args.bytes.now c.in-Some.digits.now c.in-Some.rest.now h f.ensures.some.1 is c.in-Some.ensures.some f.ensures.some.0
 
 pub returns-then-is_other_format : goal.returns-then-is_other_format

@@ -3,7 +3,7 @@ use Rattle.unify_core.proofs.Lists.{if_ok}
 use Rattle.term_bank.proofs.Growth.{extends_trans}
 use Rattle.clause_form.specs.Walks.{IsMetEarly, numbers_of}
 use Rattle.clause_form.proofs.Running.{leaves_stay}
-use Rattle.clause_form.proofs.walk.followed_node.Goals as goal
+use Rattle.clause_form.proofs.walk.node_result.Goals as goal
 
 pub settled_application-requires-clause-leaves : goal.settled_application-requires-clause-leaves
 settled_application-requires-clause-leaves c = leaves_stay c.args.bank.now c.leaf_result.new.bank c.args.leaves.now c.leaf_result.ensures.extends c.requires.leaves

@@ -1,7 +1,7 @@
 use Rattle.std.proofs.Common.{◌+◌, ◌∙◌, sym, subst, inl, inr, [], ◌∷◌, ◌++◌, map, arith, List}
 use Rattle.std.proofs.lemmas.Bool.{false≢true}
 use Rattle.inst_logic.proofs.Numbers.{last_or_before}
-use Rattle.inst_calculus.specs.Models.{Member, IsTrueBy}
+use Rattle.inst_calculus.specs.Models.{SelectedClause, IsTrueBy}
 use Rattle.finite_model.specs.Flattening.{applied, element}
 use Rattle.finite_model.proofs.cell_reading.value_at.Goals as goal
 
@@ -16,7 +16,7 @@ loop-i-preserved g c = record {
         let here : IsTrueBy (g.T.TruthTest.members c.args.test.now) (applied c.args.sym.now (map element c.args.es.now ++ element (c.loop-i.i + 1) ∷ [])) =
         subst (λ e. IsTrueBy (g.T.TruthTest.members c.args.test.now) (applied c.args.sym.now (map element c.args.es.now ++ element e ∷ []))) last t in
         let now : IsTrueBy (g.T.TruthTest.members c.loop-i.test) (applied c.args.sym.now (map element c.args.es.now ++ element (c.loop-i.i + 1) ∷ [])) =
-        subst (λ (ms : List Member). IsTrueBy ms (applied c.args.sym.now (map element c.args.es.now ++ element (c.loop-i.i + 1) ∷ []))) (sym c.loop-i.invariant.same) here in
+        subst (λ (ms : List SelectedClause). IsTrueBy ms (applied c.args.sym.now (map element c.args.es.now ++ element (c.loop-i.i + 1) ∷ []))) (sym c.loop-i.invariant.same) here in
         absurd (false≢true (sym c.if-found.false ∙ c.in_ok-found.ensures.truth.1 now))
   ];
 }

@@ -1,5 +1,5 @@
 use Rattle.std.proofs.Common.{subst, List, All}
-use Rattle.inst_calculus.specs.Models.{Member}
+use Rattle.inst_calculus.specs.Models.{SelectedClause}
 use Rattle.finite_model.specs.Reading.{IsReadPredicate}
 use Rattle.finite_model.proofs.table_reading.tables_by.Goals as goal
 
@@ -8,5 +8,5 @@ returns-in-Ok-clause-read g c = record {
   functions = c.in_ok-functions.ensures.symbols;
   predicates = c.in-Ok.ensures.symbols;
   read_functions = c.in_ok-functions.ensures.read;
-  read_predicates = subst (λ (ms : List Member). All (IsReadPredicate ms c.args.k c.args.numbering.now) c.in-Ok.predicates) c.in_ok-functions.ensures.same c.in-Ok.ensures.read;
+  read_predicates = subst (λ (ms : List SelectedClause). All (IsReadPredicate ms c.args.k c.args.numbering.now) c.in-Ok.predicates) c.in_ok-functions.ensures.same c.in-Ok.ensures.read;
 }

@@ -4,7 +4,7 @@ use Rattle.inst_calculus.specs.Abstraction.{abstract_literals}
 use Rattle.term_bank.specs.Forest.{IsClauseAt, clause_at}
 use Rattle.ground_abs.proofs.Atoms.{numbered_fit}
 use Rattle.ground_abs.proofs.Numbered.{are_named, are_numbered}
-use Rattle.ground_abs.proofs.abstraction.clause_by_numbers.Goals as goal
+use Rattle.ground_abs.proofs.abstraction.number_literals.Goals as goal
 
 pub returns-clause-literals : goal.returns-clause-literals
 returns-clause-literals c =

@@ -13,8 +13,8 @@ cycle-requires-clause-tended g c = all_wait g.I.PartnerIndex.pairs c.start.new.r
 pub cycle-requires-clause-formed : goal.cycle-requires-clause-formed
 cycle-requires-clause-formed g c = with_axioms_formed c.args.p.now.clauses (printable_formed c.args.p.now.clauses c.requires.clauses)
 
-pub refuted_by-requires-clause-problem : goal.refuted_by-requires-clause-problem
-refuted_by-requires-clause-problem g c =
+pub refuted_ending-requires-clause-problem : goal.refuted_ending-requires-clause-problem
+refuted_ending-requires-clause-problem g c =
     let d = c.in_ok-derivation.ensures in
     let clauses = c.args.p.now.clauses in
     let old = c.start.new.run in

@@ -2,7 +2,7 @@ use Rattle.std.proofs.Common.{ap, ap₂}
 use Rattle.instgen_loop.specs.declared.refuted.RefutedRun.{RefutedRun}
 use Rattle.instgen_loop.specs.Marks.{events_of}
 use Rattle.instgen_loop.proofs.Refuting.{refuted_ending}
-use Rattle.instgen_loop.proofs.refuted.refuted_by.Goals as goal
+use Rattle.instgen_loop.proofs.refuted.refuted_ending.Goals as goal
 
 pub returns-clause-ending : goal.returns-clause-ending
 returns-clause-ending g c =

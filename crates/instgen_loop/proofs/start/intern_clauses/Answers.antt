@@ -6,7 +6,7 @@ use Rattle.term_bank.proofs.Growth.{extends_trans}
 use Rattle.instgen_loop.specs.Starting.{AreGiven}
 use Rattle.term_bank.proofs.Clauses.{formed_at}
 use Rattle.instgen_loop.proofs.FirstEntries.{one_more_given}
-use Rattle.instgen_loop.proofs.start.clauses_by_id.Goals as goal
+use Rattle.instgen_loop.proofs.start.intern_clauses.Goals as goal
 
 pub loop-c-preserved : goal.loop-c-preserved
 loop-c-preserved c =

@@ -1,5 +1,5 @@
 use Rattle.std.proofs.Common.{◌≡◌, ◌∙◌, ◌≤◌, ℕ, length, ap, sym, subst, arith, List}
-use Rattle.term_index.specs.Pairs.{Pair}
+use Rattle.term_index.specs.Pairs.{Posting}
 use Rattle.instgen_loop.proofs.Selected.{same_places}
 use Rattle.instgen_loop.specs.Loops.{items}
 use Rattle.instgen_loop.proofs.Works.{all_worked, done_on, goes_on}
@@ -18,7 +18,7 @@ pub work_next-requires-clause-partner : goal.work_next-requires-clause-partner
 work_next-requires-clause-partner g c =
     let index = g.I.PartnerIndex in
     let given = (rw c.in-Some.is at c.in_ok-next.ensures.gives).0 in
-    let p : Pair = (given.0, c.in-Some.j) in
+    let p : Posting = (given.0, c.in-Some.j) in
     let k = c.requires.stored p (c.in_ok-cursor.ensures.asked.stored p (c.loop-cursor.invariant.among p given.1)) in
     (k.0, subst (λ (xs : List ℕ). c.in-Some.j ≤ length xs) (sym (same_places c.loop-cursor.invariant.goes.selection)) k.1)
 
@@ -29,7 +29,7 @@ loop-cursor-preserved g c =
     let given = (rw c.in-Some.is at c.in_ok-next.ensures.gives).0 in
     let inv = c.loop-cursor.invariant in
     let w = c.in_ok-work_next-in-Some.ensures in
-    let within : (p : Pair) → index.to_come partners c.in_ok-cursor.cursor p → p.1 ≤ length (items c.loop-cursor.run) =
+    let within : (p : Posting) → index.to_come partners c.in_ok-cursor.cursor p → p.1 ≤ length (items c.loop-cursor.run) =
     λ p k.
     let h = (c.requires.stored p (c.in_ok-cursor.ensures.asked.stored p k)).1 in
     let q : length c.loop-cursor.run.selection.places ≡ length c.args.run.now.selection.places = ap length (same_places inv.goes.selection) in
@@ -40,10 +40,10 @@ loop-cursor-preserved g c =
       walks = c.in_ok-next.ensures.walks;
       among = λ p k. inv.among p ((given.2 p).0 k).0;
       running = λ o bot cs budget v h.
-          let p : Pair = (given.0, c.in-Some.j) in
+          let p : Posting = (given.0, c.in-Some.j) in
           w.running (opposite_stays c.args.run.now c.loop-cursor.run inv.goes c.args.pick.entry p.1 (o p (c.in_ok-cursor.ensures.asked.stored p (inv.among p given.1)))) bot cs budget v (inv.running o bot cs budget v h);
       last = let given = (rw c.in-Some.is at c.in_ok-next.ensures.gives).0 in
-          let p : Pair = (given.0, c.in-Some.j) in
+          let p : Posting = (given.0, c.in-Some.j) in
           let k = c.requires.stored p (c.in_ok-cursor.ensures.asked.stored p (inv.among p given.1)) in
           (k.0, subst (λ (xs : List ℕ). c.in-Some.j ≤ length xs) (sym (same_places w.goes.selection ∙ same_places inv.goes.selection)) k.1, w.worked);
       worked = done_on c.loop-cursor.run c.work_next.new.run c.args.pick.entry c.in-Some.j (index.to_come partners c.in_ok-cursor.cursor) (index.to_come partners c.loop-cursor.cursor) (index.to_come partners c.next.new.cursor)
@@ -61,7 +61,7 @@ work_next-requires-clause-last g c = c.loop-cursor.invariant.last
 pub work_next-requires-clause-indexed : goal.work_next-requires-clause-indexed
 work_next-requires-clause-indexed g c =
     let given = (rw c.in-Some.is at c.in_ok-next.ensures.gives).0 in
-    let p : Pair = (given.0, c.in-Some.j) in
+    let p : Posting = (given.0, c.in-Some.j) in
     let inv = c.loop-cursor.invariant in
     let there = c.in_ok-cursor.ensures.asked.stored p (inv.among p given.1) in
     indexed_stays c.args.run.now c.loop-cursor.run inv.goes c.requires.safe.entries c.requires.safe.within c.args.pick.indexed c.in-Some.j (c.requires.stored p there).1 (if_some_weaker c.args.pick.indexed (λ k h. (h.0, h.1, h.2 p there)) c.requires.indexed)

@@ -1,7 +1,7 @@
 use Rattle.std.proofs.Common.{◌≡◌, ◌⊎◌, false, Contains}
 use Rattle.term_bank.specs.Forest.{tree_at, Extends}
 use Rattle.term_index.specs.Views.{Stands}
-use Rattle.term_index.specs.Pairs.{Pair}
+use Rattle.term_index.specs.Pairs.{Posting}
 use Rattle.term_index.proofs.partners.partners_of.Given as goal
 
 -- each partner came or still comes
@@ -15,6 +15,6 @@ invariant-loop-item g l =
       same : l.item-iterator.index.now ≡ l.index;
       extends : Extends l.fn.bank l.bank;
       fits : index.fits l.bank l.index;
-      all : (p : Pair) → Contains (index.pairs l.index) p → Stands l.fn.view (tree_at l.fn.bank p.0) (tree_at l.fn.bank l.fn.query)
+      all : (p : Posting) → Contains (index.pairs l.index) p → Stands l.fn.view (tree_at l.fn.bank p.0) (tree_at l.fn.bank l.fn.query)
           → index.to_come l.item-iterator.index.now l.item-iterator.cursor p ⊎ Contains l.entries.items p.1;
     }

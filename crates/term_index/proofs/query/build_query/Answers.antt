@@ -2,7 +2,7 @@ use Rattle.std.proofs.Common.{◌≡◌, ◌∙◌, ◌<◌, ◌++◌, ◌∷◌
 use Rattle.term_index.specs.declared.query.QueryNode.{QueryNode}
 use Rattle.term_index.specs.Copies.{id_of, CopiesSome}
 use Rattle.term_index.proofs.CopyLaws.{copy_whole, copy_on, args_on, front_on, ids_longer, root_on, few_ids, ids_bound, id_within}
-use Rattle.term_index.proofs.query.query_copy.Goals as goal
+use Rattle.term_index.proofs.query.build_query.Goals as goal
 
 pub loop-next-smaller : goal.loop-next-smaller
 loop-next-smaller c =

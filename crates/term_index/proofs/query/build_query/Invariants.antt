@@ -1,6 +1,6 @@
 use Rattle.std.proofs.Common.{◌≡◌, ◌<◌, ◌≤◌, ◌-◌, length, All, slice_index_or}
 use Rattle.term_index.specs.Copies.{id_of, CopiesSome}
-use Rattle.term_index.proofs.query.query_copy.Given as goal
+use Rattle.term_index.proofs.query.build_query.Given as goal
 
 abbrev pub invariant-loop-next : goal.invariant-loop-next
 invariant-loop-next l = record {

@@ -15,14 +15,14 @@ returns-then-is_done c =
     let w = c.args.walk.now in
     let st = w.stack.items in
     let f = c.args.frame in
-    let k = c.frame_at_argument-first.result in
+    let k = c.argument_frame-first.result in
     let ds = c.truncate.new.self.items in
     let cut = c.truncate.ensures.items in
     let walking = cut_walking v g es ps ns a w.cells.items ds st f w.leaf c.requires.walking cut in
     from_cut v g es ps ns a w.cells.items ds st f w.leaf c.requires.walking cut w.place ds st k.node 0
     (on_leaf v g es ps ns a ds st f k w.leaf w.place walking c.requires.over
-    (same_is g c.as_slice.result.now ds f k c.as_slice.ensures.value walking.cells c.frame_at_argument-first.ensures.same)
-    (c.is_done.ensures.yes c.if-is_done.true) (settled_is g c.as_slice.result.now ds k c.as_slice.ensures.value walking.cells c.frame_at_argument-first.ensures.first))
+    (same_is g c.as_slice.result.now ds f k c.as_slice.ensures.value walking.cells c.argument_frame-first.ensures.same)
+    (c.is_done.ensures.yes c.if-is_done.true) (settled_is g c.as_slice.result.now ds k c.as_slice.ensures.value walking.cells c.argument_frame-first.ensures.first))
 
 pub advance-requires-clause-frame : goal.advance-requires-clause-frame
 advance-requires-clause-frame c =
@@ -31,7 +31,7 @@ advance-requires-clause-frame c =
     let w = c.args.walk.now in
     let ds = c.truncate.new.self.items in
     let walking = cut_walking c.args.view g c.args.trie.now.edges.keys c.args.trie.now.places ns c.requires.trie w.cells.items ds w.stack.items c.args.frame w.leaf c.requires.walking c.truncate.ensures.items in
-    first_is g (length ns) c.as_slice.result.now ds c.args.frame c.frame_at_argument-first.result c.as_slice.ensures.value walking.cells c.frame_at_argument-first.ensures.frame
+    first_is g (length ns) c.as_slice.result.now ds c.args.frame c.argument_frame-first.result c.as_slice.ensures.value walking.cells c.argument_frame-first.ensures.frame
     (last_frame g (length ns) (length ds) w.stack.items c.args.frame walking.frames)
 
 pub advance-requires-clause-cells : goal.advance-requires-clause-cells
@@ -50,7 +50,7 @@ returns c =
     let w = c.args.walk.now in
     let st = w.stack.items in
     let f = c.args.frame in
-    let k = c.frame_at_argument-first.result in
+    let k = c.argument_frame-first.result in
     let ds = c.truncate.new.self.items in
     let cut = c.truncate.ensures.items in
     let walking = cut_walking v g es ps ns a w.cells.items ds st f w.leaf c.requires.walking cut in
@@ -61,5 +61,5 @@ returns c =
     subst place (sym c.advance.ensures.stays.1) (subst leaf (sym c.advance.ensures.stays.0)
     (from_cut v g es ps ns a w.cells.items ds st f w.leaf c.requires.walking cut w.place next.cells.items next.stack.items w.leaf w.place
     (on_next v g es ps ns a ds next.cells.items st next.stack.items f k w.leaf w.place walking c.in_ok-advance.ensures.cells c.advance.ensures.grows
-    (subst low c.frame_at_argument-first.ensures.cells c.in_ok-advance.ensures.next)
-    (same_is g c.as_slice.result.now ds f k c.as_slice.ensures.value walking.cells c.frame_at_argument-first.ensures.same))))
+    (subst low c.argument_frame-first.ensures.cells c.in_ok-advance.ensures.next)
+    (same_is g c.as_slice.result.now ds f k c.as_slice.ensures.value walking.cells c.argument_frame-first.ensures.same))))

@@ -1,12 +1,12 @@
 use Rattle.std.proofs.Common.{◌≤◌, ◌↔◌}
-use Rattle.term_index.specs.Pairs.{Pair}
+use Rattle.term_index.specs.Pairs.{Posting}
 use Rattle.term_index.specs.Tries.{IsWalkOver, StillComes, most_left}
 use Rattle.term_index.proofs.walk.next_entry.Given as goal
 
 abbrev pub invariant-loop-entry : goal.invariant-loop-entry
 invariant-loop-entry l = record {
   walking : IsWalkOver l.fn.view l.query l.trie l.walk;
-  comes : (p : Pair) → StillComes l.fn.view l.query l.trie l.walk p ↔ StillComes l.fn.view l.query l.trie l.fn.walk p;
+  comes : (p : Posting) → StillComes l.fn.view l.query l.trie l.walk p ↔ StillComes l.fn.view l.query l.trie l.fn.walk p;
   most : most_left l.trie l.walk ≤ most_left l.trie l.fn.walk;
 }
 

@@ -2,7 +2,7 @@ use Rattle.std.proofs.Common.{sym, subst, ◌∙◌}
 use Rattle.core_min.specs.Cores.{ArePlaces, HasRefutation, clauses_at}
 use Rattle.core_min.specs.Verdicts.{IsCited}
 use Rattle.szs_prove.proofs.SubProblems.{all_cited, some_places}
-use Rattle.szs_prove.proofs.sub_lists.SubLists.smaller_core.Goals as goal
+use Rattle.szs_prove.proofs.sub_lists.SubLists.refuted_places.Goals as goal
 
 pub is_refuted-requires : goal.is_refuted-requires
 is_refuted-requires c =
