@@ -2,10 +2,11 @@
 ghost use Rattle.std.specs.Prelude.{◌≡◌, ◌<◌, [], length, true, IfOk, IfSome, OnOk};
 ghost use Rattle.term_bank.specs.Forest.{AreIds, Extends};
 
+use crate::partners::partners_of;
 use inst_logic::{Kind, Memory, Name, Sym};
 use std::alloc::Global;
 use term_bank::{Bank, TermId};
-use term_index::{PartnerIndex, View, partners_of};
+use term_index::{PartnerIndex, View};
 use unify_core::Bindings;
 
 // A term or an atom over earlier ones of a list, which are named by their places, counted from 1.

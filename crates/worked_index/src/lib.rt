@@ -2,6 +2,7 @@
 #![tactic(auto)]
 
 pub mod building;
+pub mod partners;
 pub mod refusing;
 
 pub use refusing::Refusing;

@@ -1,15 +1,13 @@
-// What a layer above does with an index.
+// How a layer above walks over an index.
 ghost use Rattle.std.specs.Prelude.{◌≡◌, ◌<◌, ℕ, length, Contains, IfOk};
 ghost use Rattle.term_bank.specs.Forest.{tree_at, Extends};
 ghost use Rattle.term_index.specs.Views.{Stands};
 ghost use Rattle.term_index.specs.Pairs.{Posting};
 
-use crate::found::candidates;
-use crate::index::PartnerIndex;
-use crate::view::View;
 use inst_logic::Memory;
 use std::alloc::Global;
 use term_bank::{Bank, TermId};
+use term_index::{PartnerIndex, View, candidates};
 
 /// The entries of all stored atoms that stand to the query as the view says, and maybe of others. A layer above finds partners
 /// in this way: the walk borrows the index alone, so the bank may grow meanwhile, and here takes each entry as a variable.

@@ -2,7 +2,7 @@ use Rattle.std.proofs.Common.{◌≡◌, ◌⊎◌, false, Contains}
 use Rattle.term_bank.specs.Forest.{tree_at, Extends}
 use Rattle.term_index.specs.Views.{Stands}
 use Rattle.term_index.specs.Pairs.{Posting}
-use Rattle.term_index.proofs.partners.partners_of.Given as goal
+use Rattle.worked_index.proofs.partners.partners_of.Given as goal
 
 -- each partner came or still comes
 abbrev pub invariant-loop-item : goal.invariant-loop-item

@@ -1,7 +1,7 @@
 use Rattle.std.proofs.Common.{◌∙◌, rules}
 use Rattle.term_bank.proofs.Growth.{extends_trans}
 use Rattle.term_index.proofs.Came.{kept}
-use Rattle.term_index.proofs.partners.partners_of.Goals as goal
+use Rattle.worked_index.proofs.partners.partners_of.Goals as goal
 
 pub loop-item-preserved : goal.loop-item-preserved
 loop-item-preserved g c =
