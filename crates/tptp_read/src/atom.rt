@@ -8,6 +8,7 @@ ghost use Rattle.tptp_read.specs.AtomReading.{FormOf, AtomOf};
 
 use crate::clause::{Literals, feature_in, single};
 use crate::lexeme::Lexeme;
+use crate::reader::Reader;
 use crate::statement::Which;
 use crate::stop::Stop;
 use crate::text::ReadError;
@@ -52,7 +53,12 @@ fn form(alloc: Global, tokens: &[Lexeme]) -> Result<Literal, Stop>
         always: false,
         feature: None,
     };
-    let after = single(alloc, &vars, tokens.len(), tokens, 0, &mut read)?;
+    let reader = Reader {
+        alloc,
+        vars: &vars,
+        tokens,
+    };
+    let after = single(&reader, tokens.len(), 0, &mut read)?;
     if after != tokens.len() {
         return Err(Stop::Wrong);
     }

@@ -10,9 +10,9 @@ ghost use Rattle.tptp_read.specs.Bodies.{disjunction_at, wrotes, body, body_of};
 use crate::clause::{Literals, item, items};
 use crate::lexeme::Lexeme;
 use crate::numbers::variables_of;
+use crate::reader::Reader;
 use crate::stop::Stop;
 use crate::width::is_wide;
-use indexmap::IndexSet;
 use inst_logic::{Clause, Literal};
 use std::alloc::Global;
 
@@ -38,23 +38,18 @@ fn tight_clause(clause: Clause) -> Clause
 }
 
 // The literals of a disjunction.
-fn disjunction<'a>(
-    alloc: Global,
-    vars: &IndexSet<&[u8]>,
-    tokens: &[Lexeme<'a>],
-    at: usize,
-) -> Result<(Literals<'a>, usize), Stop>
-    ensures is { Gives (λ x. (gathered x.0, toks (drop x.1 tokens.now))) result (seen (λ p. fold (gather (texts vars.now.keys)) nothing (wrotes p)) (disjunction_at (length tokens.now) (toks (drop at tokens.now)))) }
-    ensures within { IfOk result (λ x. (at < x.1) × (x.1 ≤ length tokens.now)) }
+fn disjunction<'a>(reader: &Reader<'_, 'a>, at: usize) -> Result<(Literals<'a>, usize), Stop>
+    ensures is { Gives (λ x. (gathered x.0, toks (drop x.1 reader.now.tokens.now))) result (seen (λ p. fold (gather (texts reader.now.vars.now.keys)) nothing (wrotes p)) (disjunction_at (length reader.now.tokens.now) (toks (drop at reader.now.tokens.now)))) }
+    ensures within { IfOk result (λ x. (at < x.1) × (x.1 ≤ length reader.now.tokens.now)) }
 {
     let mut literals = Literals {
-        clause: Clause::new(alloc),
+        clause: Clause::new(reader.alloc),
         always: false,
         feature: None,
     };
-    let depth = tokens.len();
-    let after = item(alloc, vars, depth, depth, tokens, at, &mut literals)?;
-    let after = items(alloc, vars, depth, depth, tokens, after, &mut literals)?;
+    let depth = reader.tokens.len();
+    let after = item(reader, depth, depth, at, &mut literals)?;
+    let after = items(reader, depth, depth, after, &mut literals)?;
     literals.clause = tight_clause(literals.clause);
     Ok((literals, after))
 }
@@ -70,7 +65,12 @@ pub(crate) fn body_at<'a>(
     ensures within { IfOk result (λ x. (at < x.1) × (x.1 ≤ length tokens.now)) }
 {
     let vars = variables_of(alloc, &tokens[at..])?;
-    let (literals, after) = disjunction(alloc, &vars, tokens, at)?;
+    let reader = Reader {
+        alloc,
+        vars: &vars,
+        tokens,
+    };
+    let (literals, after) = disjunction(&reader, at)?;
     let own = variables_of(alloc, &tokens[at..after])?;
     let body = Body {
         wide: is_wide(&literals.clause),

@@ -13,10 +13,10 @@ ghost use Rattle.inst_logic.specs.Codes as byte;
 
 use crate::lexeme::Lexeme;
 use crate::literals::{Atomic, literal};
+use crate::reader::Reader;
 use crate::stop::Stop;
 use crate::terms::tight_list;
 use crate::words::{is_feature, stands_at};
-use indexmap::IndexSet;
 use inst_logic::{Clause, Kind, Literal, Memory, Name, Sym, Term, TermList};
 use std::alloc::Global;
 
@@ -139,44 +139,40 @@ fn add<'a>(
 
 // Reads a literal.
 pub(crate) fn single<'a>(
-    alloc: Global,
-    vars: &IndexSet<&[u8]>,
+    reader: &Reader<'_, 'a>,
     depth: usize,
-    tokens: &[Lexeme<'a>],
     at: usize,
     into: &mut Literals<'a>,
 ) -> Result<usize, Stop>
-    ensures is { Gives (λ x. (gathered into.new, toks (drop x tokens.now))) result (seen (λ s. gather (texts vars.now.keys) (gathered into.old) (from_simple s)) (simple_at depth (toks (drop at tokens.now)))) }
-    ensures within { IfOk result (λ x. (at < x) × (x ≤ length tokens.now)) }
+    ensures is { Gives (λ x. (gathered into.new, toks (drop x reader.now.tokens.now))) result (seen (λ s. gather (texts reader.now.vars.now.keys) (gathered into.old) (from_simple s)) (simple_at depth (toks (drop at reader.now.tokens.now)))) }
+    ensures within { IfOk result (λ x. (at < x) × (x ≤ length reader.now.tokens.now)) }
 {
-    let (read, after) = literal(alloc, vars, depth, tokens, at)?;
-    add(alloc, into, read, &tokens[at..after])?;
+    let (read, after) = literal(reader, depth, at)?;
+    add(reader.alloc, into, read, &reader.tokens[at..after])?;
     Ok(after)
 }
 
 // Reads a literal, or a disjunction in parentheses.
 #[cycle(items)]
 pub(crate) fn item<'a>(
-    alloc: Global,
-    vars: &IndexSet<&[u8]>,
+    reader: &Reader<'_, 'a>,
     nesting: usize,
     depth: usize,
-    tokens: &[Lexeme<'a>],
     at: usize,
     into: &mut Literals<'a>,
 ) -> Result<usize, Stop>
-    ensures is { Gives (λ x. (gathered into.new, toks (drop x tokens.now))) result (seen (λ i. fold (gather (texts vars.now.keys)) (gathered into.old) (from_item i)) (item_at nesting depth (toks (drop at tokens.now)))) }
-    ensures within { IfOk result (λ x. (at < x) × (x ≤ length tokens.now)) }
+    ensures is { Gives (λ x. (gathered into.new, toks (drop x reader.now.tokens.now))) result (seen (λ i. fold (gather (texts reader.now.vars.now.keys)) (gathered into.old) (from_item i)) (item_at nesting depth (toks (drop at reader.now.tokens.now)))) }
+    ensures within { IfOk result (λ x. (at < x) × (x ≤ length reader.now.tokens.now)) }
 {
-    if !stands_at(tokens, at, b'(') {
-        return single(alloc, vars, depth, tokens, at, into);
+    if !stands_at(reader.tokens, at, b'(') {
+        return single(reader, depth, at, into);
     }
     if nesting == 0 {
         return Err(Stop::Wrong);
     }
-    let after = item(alloc, vars, nesting - 1, depth, tokens, at + 1, into)?;
-    let after = items(alloc, vars, nesting - 1, depth, tokens, after, into)?;
-    if !stands_at(tokens, after, b')') {
+    let after = item(reader, nesting - 1, depth, at + 1, into)?;
+    let after = items(reader, nesting - 1, depth, after, into)?;
+    if !stands_at(reader.tokens, after, b')') {
         return Err(Stop::Wrong);
     }
     Ok(after + 1)
@@ -185,20 +181,18 @@ pub(crate) fn item<'a>(
 // Reads what follows the first of a disjunction.
 #[cycle(items)]
 pub(crate) fn items<'a>(
-    alloc: Global,
-    vars: &IndexSet<&[u8]>,
+    reader: &Reader<'_, 'a>,
     nesting: usize,
     depth: usize,
-    tokens: &[Lexeme<'a>],
     at: usize,
     into: &mut Literals<'a>,
 ) -> Result<usize, Stop>
-    ensures is { Gives (λ x. (gathered into.new, toks (drop x tokens.now))) result (seen (λ is. fold (gather (texts vars.now.keys)) (gathered into.old) (from_items (items_of is))) (many_at byte.bar (item_at nesting depth) (length (toks (drop at tokens.now))) (toks (drop at tokens.now)))) }
-    ensures within { at ≤ length tokens.now → IfOk result (λ x. (at ≤ x) × (x ≤ length tokens.now)) }
+    ensures is { Gives (λ x. (gathered into.new, toks (drop x reader.now.tokens.now))) result (seen (λ is. fold (gather (texts reader.now.vars.now.keys)) (gathered into.old) (from_items (items_of is))) (many_at byte.bar (item_at nesting depth) (length (toks (drop at reader.now.tokens.now))) (toks (drop at reader.now.tokens.now)))) }
+    ensures within { at ≤ length reader.now.tokens.now → IfOk result (λ x. (at ≤ x) × (x ≤ length reader.now.tokens.now)) }
 {
     let mut next = at;
-    while stands_at(tokens, next, b'|') {
-        next = item(alloc, vars, nesting, depth, tokens, next + 1, into)?;
+    while stands_at(reader.tokens, next, b'|') {
+        next = item(reader, nesting, depth, next + 1, into)?;
     }
     Ok(next)
 }

@@ -17,6 +17,7 @@ mod lexeme;
 mod literals;
 mod notes;
 mod numbers;
+mod reader;
 mod refusal;
 mod runs;
 mod scan;

@@ -9,12 +9,11 @@ ghost use Rattle.tptp_read.specs.LexemeView.{tok, toks, texts, Gives};
 ghost use Rattle.tptp_read.specs.Shapes.{seen, shape, shape_of, truth_of, IsOfTerm, negated_plain, simple_plain};
 
 use crate::lexeme::Lexeme;
+use crate::reader::Reader;
 use crate::stop::Stop;
 use crate::terms::term;
 use crate::words::{is_dollar, is_head, is_punctuation, stands_at};
-use indexmap::IndexSet;
 use inst_logic::Term;
-use std::alloc::Global;
 
 // An atom or an equation with its sign, and whether it is `$true` or `$false`.
 #[derive(Drop)]
@@ -78,19 +77,13 @@ fn atom_at(tokens: &[Lexeme], at: usize) -> bool
 
 // What stands behind `~`, without parentheses.
 #[tactic(auto, using(crate::proofs::Reading::behind_toks), unfolding(crate::specs::Shapes::negated_plain))]
-fn negated_atomic(
-    alloc: Global,
-    vars: &IndexSet<&[u8]>,
-    depth: usize,
-    tokens: &[Lexeme],
-    at: usize,
-) -> Result<(Atomic, usize), Stop>
-    ensures is { Gives (λ x. (shape x.0, toks (drop x.1 tokens.now))) result (seen (λ n. shape_of (texts vars.now.keys) (from_negated n)) (negated_plain depth (toks (drop at tokens.now)))) }
-    ensures within { IfOk result (λ x. (at < x.1) × (x.1 ≤ length tokens.now)) }
+fn negated_atomic(reader: &Reader<'_, '_>, depth: usize, at: usize) -> Result<(Atomic, usize), Stop>
+    ensures is { Gives (λ x. (shape x.0, toks (drop x.1 reader.now.tokens.now))) result (seen (λ n. shape_of (texts reader.now.vars.now.keys) (from_negated n)) (negated_plain depth (toks (drop at reader.now.tokens.now)))) }
+    ensures within { IfOk result (λ x. (at < x.1) × (x.1 ≤ length reader.now.tokens.now)) }
 {
-    let (left, after) = term(alloc, vars, depth, tokens, at)?;
-    if stands_at(tokens, after, b'=') {
-        let (right, after) = term(alloc, vars, depth, tokens, after + 1)?;
+    let (left, after) = term(reader, depth, at)?;
+    if stands_at(reader.tokens, after, b'=') {
+        let (right, after) = term(reader, depth, after + 1)?;
         let equation = Atomic {
             positive: false,
             left,
@@ -99,14 +92,14 @@ fn negated_atomic(
         };
         return Ok((equation, after));
     }
-    if !atom_at(tokens, at) {
+    if !atom_at(reader.tokens, at) {
         return Err(Stop::Wrong);
     }
     let atom = Atomic {
         positive: false,
         left,
         right: None,
-        truth: truth_at(tokens, at),
+        truth: truth_at(reader.tokens, at),
     };
     Ok((atom, after))
 }
@@ -114,24 +107,22 @@ fn negated_atomic(
 // What stands behind `~`.
 #[tactic(auto, using(crate::proofs::Reading::behind_toks), unfolding(crate::specs::ParseClause::negated_at, crate::specs::ParseClause::negated_with))]
 fn negative_literal(
-    alloc: Global,
-    vars: &IndexSet<&[u8]>,
+    reader: &Reader<'_, '_>,
     nesting: usize,
     depth: usize,
-    tokens: &[Lexeme],
     at: usize,
 ) -> Result<(Atomic, usize), Stop>
-    ensures is { Gives (λ x. (shape x.0, toks (drop x.1 tokens.now))) result (seen (λ n. shape_of (texts vars.now.keys) (from_negated n)) (negated_at nesting depth (toks (drop at tokens.now)))) }
-    ensures within { IfOk result (λ x. (at < x.1) × (x.1 ≤ length tokens.now)) }
+    ensures is { Gives (λ x. (shape x.0, toks (drop x.1 reader.now.tokens.now))) result (seen (λ n. shape_of (texts reader.now.vars.now.keys) (from_negated n)) (negated_at nesting depth (toks (drop at reader.now.tokens.now)))) }
+    ensures within { IfOk result (λ x. (at < x.1) × (x.1 ≤ length reader.now.tokens.now)) }
 {
-    if !stands_at(tokens, at, b'(') {
-        return negated_atomic(alloc, vars, depth, tokens, at);
+    if !stands_at(reader.tokens, at, b'(') {
+        return negated_atomic(reader, depth, at);
     }
     if nesting == 0 {
         return Err(Stop::Wrong);
     }
-    let (inner, after) = negative_literal(alloc, vars, nesting - 1, depth, tokens, at + 1)?;
-    if !stands_at(tokens, after, b')') {
+    let (inner, after) = negative_literal(reader, nesting - 1, depth, at + 1)?;
+    if !stands_at(reader.tokens, after, b')') {
         return Err(Stop::Wrong);
     }
     Ok((inner, after + 1))
@@ -139,19 +130,13 @@ fn negative_literal(
 
 // A literal without `~`.
 #[tactic(auto, using(crate::proofs::Reading::behind_toks), unfolding(crate::specs::Shapes::simple_plain))]
-fn simple_atomic(
-    alloc: Global,
-    vars: &IndexSet<&[u8]>,
-    depth: usize,
-    tokens: &[Lexeme],
-    at: usize,
-) -> Result<(Atomic, usize), Stop>
-    ensures is { Gives (λ x. (shape x.0, toks (drop x.1 tokens.now))) result (seen (λ s. shape_of (texts vars.now.keys) (from_simple s)) (simple_plain depth (toks (drop at tokens.now)))) }
-    ensures within { IfOk result (λ x. (at < x.1) × (x.1 ≤ length tokens.now)) }
+fn simple_atomic(reader: &Reader<'_, '_>, depth: usize, at: usize) -> Result<(Atomic, usize), Stop>
+    ensures is { Gives (λ x. (shape x.0, toks (drop x.1 reader.now.tokens.now))) result (seen (λ s. shape_of (texts reader.now.vars.now.keys) (from_simple s)) (simple_plain depth (toks (drop at reader.now.tokens.now)))) }
+    ensures within { IfOk result (λ x. (at < x.1) × (x.1 ≤ length reader.now.tokens.now)) }
 {
-    let (left, after) = term(alloc, vars, depth, tokens, at)?;
-    if stands_at(tokens, after, b'=') {
-        let (right, after) = term(alloc, vars, depth, tokens, after + 1)?;
+    let (left, after) = term(reader, depth, at)?;
+    if stands_at(reader.tokens, after, b'=') {
+        let (right, after) = term(reader, depth, after + 1)?;
         let equation = Atomic {
             positive: true,
             left,
@@ -160,8 +145,8 @@ fn simple_atomic(
         };
         return Ok((equation, after));
     }
-    if unequal_at(tokens, after) {
-        let (right, after) = term(alloc, vars, depth, tokens, after + 1)?;
+    if unequal_at(reader.tokens, after) {
+        let (right, after) = term(reader, depth, after + 1)?;
         let equation = Atomic {
             positive: false,
             left,
@@ -170,14 +155,14 @@ fn simple_atomic(
         };
         return Ok((equation, after));
     }
-    if !atom_at(tokens, at) {
+    if !atom_at(reader.tokens, at) {
         return Err(Stop::Wrong);
     }
     let atom = Atomic {
         positive: true,
         left,
         right: None,
-        truth: truth_at(tokens, at),
+        truth: truth_at(reader.tokens, at),
     };
     Ok((atom, after))
 }
@@ -185,17 +170,15 @@ fn simple_atomic(
 // A literal.
 #[tactic(auto, using(crate::proofs::Reading::behind_toks), unfolding(crate::specs::ParseClause::simple_at))]
 pub(crate) fn literal(
-    alloc: Global,
-    vars: &IndexSet<&[u8]>,
+    reader: &Reader<'_, '_>,
     depth: usize,
-    tokens: &[Lexeme],
     at: usize,
 ) -> Result<(Atomic, usize), Stop>
-    ensures is { Gives (λ x. (shape x.0, toks (drop x.1 tokens.now))) result (seen (λ s. shape_of (texts vars.now.keys) (from_simple s)) (simple_at depth (toks (drop at tokens.now)))) }
-    ensures within { IfOk result (λ x. (at < x.1) × (x.1 ≤ length tokens.now)) }
+    ensures is { Gives (λ x. (shape x.0, toks (drop x.1 reader.now.tokens.now))) result (seen (λ s. shape_of (texts reader.now.vars.now.keys) (from_simple s)) (simple_at depth (toks (drop at reader.now.tokens.now)))) }
+    ensures within { IfOk result (λ x. (at < x.1) × (x.1 ≤ length reader.now.tokens.now)) }
 {
-    if stands_at(tokens, at, b'~') {
-        return negative_literal(alloc, vars, depth, depth, tokens, at + 1);
+    if stands_at(reader.tokens, at, b'~') {
+        return negative_literal(reader, depth, depth, at + 1);
     }
-    simple_atomic(alloc, vars, depth, tokens, at)
+    simple_atomic(reader, depth, at)
 }

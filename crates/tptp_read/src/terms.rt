@@ -10,6 +10,7 @@ ghost use Rattle.inst_logic.specs.Codes as byte;
 
 use crate::lexeme::Lexeme;
 use crate::numbers::place_of;
+use crate::reader::Reader;
 use crate::stop::Stop;
 use crate::words::{is_head, is_plain, is_variable, name_of, stands_at};
 use indexmap::IndexSet;
@@ -38,27 +39,21 @@ fn single_of(alloc: Global, vars: &IndexSet<&[u8]>, l: &Lexeme) -> Result<Term, 
 // A term in which at most `depth` parentheses are open at once.
 #[cycle(term)]
 #[tactic(auto, unfolding(crate::specs::Parse::term_at, crate::specs::Parse::term_with))]
-pub(crate) fn term(
-    alloc: Global,
-    vars: &IndexSet<&[u8]>,
-    depth: usize,
-    tokens: &[Lexeme],
-    at: usize,
-) -> Result<(Term, usize), Stop>
-    ensures is { Gives (λ x. (tree x.0, toks (drop x.1 tokens.now))) result (in_trees (texts vars.now.keys) (term_at depth (toks (drop at tokens.now)))) }
-    ensures within { IfOk result (λ x. (at < x.1) × (x.1 ≤ length tokens.now)) }
+pub(crate) fn term(reader: &Reader<'_, '_>, depth: usize, at: usize) -> Result<(Term, usize), Stop>
+    ensures is { Gives (λ x. (tree x.0, toks (drop x.1 reader.now.tokens.now))) result (in_trees (texts reader.now.vars.now.keys) (term_at depth (toks (drop at reader.now.tokens.now)))) }
+    ensures within { IfOk result (λ x. (at < x.1) × (x.1 ≤ length reader.now.tokens.now)) }
 {
-    if at >= tokens.len() {
+    if at >= reader.tokens.len() {
         return Err(Stop::Wrong);
     }
-    let first = &tokens[at];
-    if is_head(first.kind) && stands_at(tokens, at + 1, b'(') {
+    let first = &reader.tokens[at];
+    if is_head(first.kind) && stands_at(reader.tokens, at + 1, b'(') {
         if depth == 0 {
             return Err(Stop::Wrong);
         }
-        application(alloc, vars, depth - 1, first, tokens, at + 2)
+        application(reader, depth - 1, first, at + 2)
     } else if is_plain(first.kind) {
-        let t = single_of(alloc, vars, first)?;
+        let t = single_of(reader.alloc, reader.vars, first)?;
         Ok((t, at + 1))
     } else {
         Err(Stop::Wrong)
@@ -69,22 +64,20 @@ pub(crate) fn term(
 #[cycle(term)]
 #[tactic(auto, unfolding(crate::specs::Parse::applied_at))]
 fn application(
-    alloc: Global,
-    vars: &IndexSet<&[u8]>,
+    reader: &Reader<'_, '_>,
     depth: usize,
     head: &Lexeme,
-    tokens: &[Lexeme],
     at: usize,
 ) -> Result<(Term, usize), Stop>
-    ensures is { Gives (λ x. (tree x.0, toks (drop x.1 tokens.now))) result (in_trees (texts vars.now.keys) (applied_at (term_at depth) (tok head.now) (toks (drop at tokens.now)))) }
-    ensures within { IfOk result (λ x. (at < x.1) × (x.1 ≤ length tokens.now)) }
+    ensures is { Gives (λ x. (tree x.0, toks (drop x.1 reader.now.tokens.now))) result (in_trees (texts reader.now.vars.now.keys) (applied_at (term_at depth) (tok head.now) (toks (drop at reader.now.tokens.now)))) }
+    ensures within { IfOk result (λ x. (at < x.1) × (x.1 ≤ length reader.now.tokens.now)) }
 {
-    let (first, after) = term(alloc, vars, depth, tokens, at)?;
-    let (args, after) = arguments(alloc, vars, depth, first, tokens, after)?;
-    if !stands_at(tokens, after, b')') {
+    let (first, after) = term(reader, depth, at)?;
+    let (args, after) = arguments(reader, depth, first, after)?;
+    if !stands_at(reader.tokens, after, b')') {
         return Err(Stop::Wrong);
     }
-    let name = name_of(alloc, head)?;
+    let name = name_of(reader.alloc, head)?;
     let arity = args.len();
     let sym = Sym {
         kind: Kind::Function,
@@ -106,21 +99,19 @@ pub(crate) fn tight_list(args: TermList) -> TermList
 // The terms behind the first, each with a comma before it.
 #[cycle(term)]
 fn arguments(
-    alloc: Global,
-    vars: &IndexSet<&[u8]>,
+    reader: &Reader<'_, '_>,
     depth: usize,
     first: Term,
-    tokens: &[Lexeme],
     at: usize,
 ) -> Result<(TermList, usize), Stop>
-    ensures is { Gives (λ x. (x.0, toks (drop x.1 tokens.now))) result (in_lists (texts vars.now.keys) (tree first ∷ []) (many_at byte.comma (term_at depth) (length (toks (drop at tokens.now))) (toks (drop at tokens.now)))) }
-    ensures within { at ≤ length tokens.now → IfOk result (λ x. (at ≤ x.1) × (x.1 ≤ length tokens.now)) }
+    ensures is { Gives (λ x. (x.0, toks (drop x.1 reader.now.tokens.now))) result (in_lists (texts reader.now.vars.now.keys) (tree first ∷ []) (many_at byte.comma (term_at depth) (length (toks (drop at reader.now.tokens.now))) (toks (drop at reader.now.tokens.now)))) }
+    ensures within { at ≤ length reader.now.tokens.now → IfOk result (λ x. (at ≤ x.1) × (x.1 ≤ length reader.now.tokens.now)) }
 {
-    let mut args = TermList::new(alloc);
+    let mut args = TermList::new(reader.alloc);
     args.push(first)?;
     let mut next = at;
-    while stands_at(tokens, next, b',') {
-        let (t, after) = term(alloc, vars, depth, tokens, next + 1)?;
+    while stands_at(reader.tokens, next, b',') {
+        let (t, after) = term(reader, depth, next + 1)?;
         args.push(t)?;
         next = after;
     }

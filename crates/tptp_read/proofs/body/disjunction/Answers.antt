@@ -14,17 +14,17 @@ returns-in_err-after-clause-is c =
     let x = c.in_err-after.field-0.0 in
     let p = err_from_is_err_and c.from_residual.result c.from_residual.ensures.1 in
     gives_err _ c.from_residual.result x _ (p.1 ∙ ap Err p.2)
-    (parts_first_fails x (texts c.args.vars.now.keys) (length c.args.tokens.now) (toks (drop c.args.at c.args.tokens.now)) (subst (λ (g : Gathered). Fails x (seen (of_item (texts c.args.vars.now.keys) g) (item_at (length c.args.tokens.now) (length c.args.tokens.now) (toks (drop c.args.at c.args.tokens.now))))) (ap started c.new.ensures) c.in_err-after.ensures.is))
+    (parts_first_fails x (texts c.args.reader.now.vars.now.keys) (length c.args.reader.now.tokens.now) (toks (drop c.args.at c.args.reader.now.tokens.now)) (subst (λ (g : Gathered). Fails x (seen (of_item (texts c.args.reader.now.vars.now.keys) g) (item_at (length c.args.reader.now.tokens.now) (length c.args.reader.now.tokens.now) (toks (drop c.args.at c.args.reader.now.tokens.now))))) (ap started c.new.ensures) c.in_err-after.ensures.is))
 
 pub returns-in_err-after-2-clause-is : goal.returns-in_err-after-2-clause-is
 returns-in_err-after-2-clause-is c =
     let x = c.in_err-after-2.field-0.0 in
     let p = err_from_is_err_and c.from_residual-in_err-after-2.result c.from_residual-in_err-after-2.ensures.1 in
     gives_err _ c.from_residual-in_err-after-2.result x _ (p.1 ∙ ap Err p.2)
-    (parts_others_fail x (texts c.args.vars.now.keys) (gathered c.item.new.into) (length c.args.tokens.now) (toks (drop c.args.at c.args.tokens.now)) (toks (drop c.in_ok-after.after c.args.tokens.now)) (subst (λ (g : Gathered). seen (of_item (texts c.args.vars.now.keys) g) (item_at (length c.args.tokens.now) (length c.args.tokens.now) (toks (drop c.args.at c.args.tokens.now))) ≡ Some (gathered c.item.new.into, toks (drop c.in_ok-after.after c.args.tokens.now))) (ap started c.new.ensures) c.in_ok-after.ensures.is) c.in_err-after-2.ensures.is)
+    (parts_others_fail x (texts c.args.reader.now.vars.now.keys) (gathered c.item.new.into) (length c.args.reader.now.tokens.now) (toks (drop c.args.at c.args.reader.now.tokens.now)) (toks (drop c.in_ok-after.after c.args.reader.now.tokens.now)) (subst (λ (g : Gathered). seen (of_item (texts c.args.reader.now.vars.now.keys) g) (item_at (length c.args.reader.now.tokens.now) (length c.args.reader.now.tokens.now) (toks (drop c.args.at c.args.reader.now.tokens.now))) ≡ Some (gathered c.item.new.into, toks (drop c.in_ok-after.after c.args.reader.now.tokens.now))) (ap started c.new.ensures) c.in_ok-after.ensures.is) c.in_err-after-2.ensures.is)
 
 pub returns-clause-is : goal.returns-clause-is
 returns-clause-is c =
-    parts_read (texts c.args.vars.now.keys) (gathered c.item.new.into) (gathered c.items.new.into) (length c.args.tokens.now) (toks (drop c.args.at c.args.tokens.now)) (toks (drop c.in_ok-after.after c.args.tokens.now)) (toks (drop c.in_ok-after-2.after c.args.tokens.now))
-    (subst (λ (g : Gathered). seen (of_item (texts c.args.vars.now.keys) g) (item_at (length c.args.tokens.now) (length c.args.tokens.now) (toks (drop c.args.at c.args.tokens.now))) ≡ Some (gathered c.item.new.into, toks (drop c.in_ok-after.after c.args.tokens.now))) (ap started c.new.ensures) c.in_ok-after.ensures.is) c.in_ok-after-2.ensures.is
-    ∙ ap (λ clause. Some (gathered (record { clause = clause; always = c.items.new.into.always; feature = c.items.new.into.feature }), toks (drop c.in_ok-after-2.after c.args.tokens.now))) (sym c.tight_clause.ensures)
+    parts_read (texts c.args.reader.now.vars.now.keys) (gathered c.item.new.into) (gathered c.items.new.into) (length c.args.reader.now.tokens.now) (toks (drop c.args.at c.args.reader.now.tokens.now)) (toks (drop c.in_ok-after.after c.args.reader.now.tokens.now)) (toks (drop c.in_ok-after-2.after c.args.reader.now.tokens.now))
+    (subst (λ (g : Gathered). seen (of_item (texts c.args.reader.now.vars.now.keys) g) (item_at (length c.args.reader.now.tokens.now) (length c.args.reader.now.tokens.now) (toks (drop c.args.at c.args.reader.now.tokens.now))) ≡ Some (gathered c.item.new.into, toks (drop c.in_ok-after.after c.args.reader.now.tokens.now))) (ap started c.new.ensures) c.in_ok-after.ensures.is) c.in_ok-after-2.ensures.is
+    ∙ ap (λ clause. Some (gathered (record { clause = clause; always = c.items.new.into.always; feature = c.items.new.into.feature }), toks (drop c.in_ok-after-2.after c.args.reader.now.tokens.now))) (sym c.tight_clause.ensures)

@@ -13,11 +13,11 @@ decreases-item l = 2 * l.nesting
 abbrev pub decreases-items : goal.decreases-items
 decreases-items l = 2 * l.nesting + 1
 
-abbrev pub invariant-items-loop-alloc : goal.invariant-items-loop-alloc
-invariant-items-loop-alloc l = record {
-  in_range : (l.at ≤ l.next) × (l.at ≤ length l.tokens → l.next ≤ length l.tokens);
-  total : seen (of_items (texts l.vars.keys) (gathered l.into)) (many_at 124 (item_at l.nesting l.depth) (length (toks (drop l.next l.tokens))) (toks (drop l.next l.tokens))) ≡ seen (of_items (texts l.vars.keys) (gathered l.initial.into)) (many_at 124 (item_at l.nesting l.depth) (length (toks (drop l.at l.tokens))) (toks (drop l.at l.tokens)));
+abbrev pub invariant-items-loop-into : goal.invariant-items-loop-into
+invariant-items-loop-into l = record {
+  in_range : (l.at ≤ l.next) × (l.at ≤ length l.reader.tokens.now → l.next ≤ length l.reader.tokens.now);
+  total : seen (of_items (texts l.reader.vars.now.keys) (gathered l.into)) (many_at 124 (item_at l.nesting l.depth) (length (toks (drop l.next l.reader.tokens.now))) (toks (drop l.next l.reader.tokens.now))) ≡ seen (of_items (texts l.reader.vars.now.keys) (gathered l.initial.into)) (many_at 124 (item_at l.nesting l.depth) (length (toks (drop l.at l.reader.tokens.now))) (toks (drop l.at l.reader.tokens.now)));
 }
 
-abbrev pub decreases-items-loop-alloc : goal.decreases-items-loop-alloc
-decreases-items-loop-alloc l = length l.tokens - l.next
+abbrev pub decreases-items-loop-into : goal.decreases-items-loop-into
+decreases-items-loop-into l = length l.reader.tokens.now - l.next

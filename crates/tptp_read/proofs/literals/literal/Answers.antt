@@ -8,5 +8,5 @@ use Rattle.tptp_read.proofs.literals.literal.Goals as goal
 
 pub returns-clause-is : goal.returns-clause-is
 returns-clause-is c =
-    let whole = no_negation c.args.depth (toks (drop c.args.at c.args.tokens.now)) (sym c.stands_at.ensures.is ∙ c.if-stands_at.false) in
-    subst (λ r. Gives (λ x. (shape x.0, toks (drop x.1 c.args.tokens.now))) c.simple_atomic.result (seen (λ (n : Simple). shape_of (texts c.args.vars.now.keys) (from_simple n)) r)) (sym whole) c.simple_atomic.ensures.is
+    let whole = no_negation c.args.depth (toks (drop c.args.at c.args.reader.now.tokens.now)) (sym c.stands_at.ensures.is ∙ c.if-stands_at.false) in
+    subst (λ r. Gives (λ x. (shape x.0, toks (drop x.1 c.args.reader.now.tokens.now))) c.simple_atomic.result (seen (λ (n : Simple). shape_of (texts c.args.reader.now.vars.now.keys) (from_simple n)) r)) (sym whole) c.simple_atomic.ensures.is

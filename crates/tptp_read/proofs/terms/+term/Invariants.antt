@@ -13,11 +13,11 @@ decreases-application l = 3 * l.depth + 2
 abbrev pub decreases-arguments : goal.decreases-arguments
 decreases-arguments l = 3 * l.depth + 1
 
-abbrev pub invariant-arguments-loop-alloc : goal.invariant-arguments-loop-alloc
-invariant-arguments-loop-alloc l = record {
-  in_range : (l.at ≤ l.next) × (l.at ≤ length l.tokens → l.next ≤ length l.tokens);
-  total : in_lists (texts l.vars.keys) l.args (many_at 44 (term_at l.depth) (length (toks (drop l.next l.tokens))) (toks (drop l.next l.tokens))) ≡ in_lists (texts l.vars.keys) (tree l.fn.first ∷ []) (many_at 44 (term_at l.depth) (length (toks (drop l.at l.tokens))) (toks (drop l.at l.tokens)));
+abbrev pub invariant-arguments-loop-args : goal.invariant-arguments-loop-args
+invariant-arguments-loop-args l = record {
+  in_range : (l.at ≤ l.next) × (l.at ≤ length l.reader.tokens.now → l.next ≤ length l.reader.tokens.now);
+  total : in_lists (texts l.reader.vars.now.keys) l.args (many_at 44 (term_at l.depth) (length (toks (drop l.next l.reader.tokens.now))) (toks (drop l.next l.reader.tokens.now))) ≡ in_lists (texts l.reader.vars.now.keys) (tree l.fn.first ∷ []) (many_at 44 (term_at l.depth) (length (toks (drop l.at l.reader.tokens.now))) (toks (drop l.at l.reader.tokens.now)));
 }
 
-abbrev pub decreases-arguments-loop-alloc : goal.decreases-arguments-loop-alloc
-decreases-arguments-loop-alloc l = length l.tokens - l.next
+abbrev pub decreases-arguments-loop-args : goal.decreases-arguments-loop-args
+decreases-arguments-loop-args l = length l.reader.tokens.now - l.next
