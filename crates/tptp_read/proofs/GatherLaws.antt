@@ -15,7 +15,7 @@ use Rattle.tptp_read.specs.Meaning.{Wrote, predicate, equal, from_simple, tree_o
 use Rattle.tptp_read.specs.ParseClause.{simple_at}
 use Rattle.tptp_read.specs.declared.lexeme.Lexeme.{Lexeme}
 use Rattle.tptp_read.specs.LexemeView.{tok, toks, Fails, Gives}
-use Rattle.tptp_read.specs.Shapes.{seen, Shape, shape_of}
+use Rattle.tptp_read.specs.Shapes.{seen, LiteralShape, shape_of}
 use Rattle.tptp_read.specs.Plain.{all_tokens, wrote_fits}
 use Rattle.tptp_read.specs.Gathered.{Gathered, gather, put, or_else, atom_literals}
 use Rattle.tptp_read.proofs.ParseLaws.{both_true}
@@ -87,7 +87,7 @@ fails_seen stops.Memory f r h = tt
 fails_seen stops.Wrong f r h = ap (λ x. seen f x) h
 
 -- a literal is put in as it is gathered
-pub literal_read : (vs : List (List ℕ)) (g : Gathered) (d : ℕ) (ts us front : List Tok) (sh : Shape) → ts ≡ front ++ us → seen (λ s. shape_of vs (from_simple s)) (simple_at d ts) ≡ Some (sh, us)
+pub literal_read : (vs : List (List ℕ)) (g : Gathered) (d : ℕ) (ts us front : List Tok) (sh : LiteralShape) → ts ≡ front ++ us → seen (λ s. shape_of vs (from_simple s)) (simple_at d ts) ≡ Some (sh, us)
     → seen (λ s. gather vs g (from_simple s)) (simple_at d ts) ≡ Some (put g sh (first_feature front), us)
 literal_read vs g d ts us front sh cut e =
     let a = seen_some (λ (s : Simple). shape_of vs (from_simple s)) (simple_at d ts) sh us e in

@@ -7,7 +7,7 @@ use Rattle.inst_logic.specs.declared.signed.Signed.{Signed}
 use Rattle.inst_logic.specs.declared.symbol.Kind.TheVariants.{Predicate, Equality}
 use Rattle.tptp_read.specs.declared.clause.Literals.{Literals}
 use Rattle.tptp_read.specs.Meaning.{Wrote, literal_of, is_always, first_feature, used_tokens}
-use Rattle.tptp_read.specs.Shapes.{Shape}
+use Rattle.tptp_read.specs.Shapes.{LiteralShape}
 use Rattle.inst_logic.specs.Codes as byte
 use Rattle.tptp_read.specs.Limits.{most_arguments}
 
@@ -47,11 +47,11 @@ abbrev pub is_so : Bool → Bool → Bool
 is_so true truth = truth
 is_so false truth = not truth
 
-abbrev pub put_as : Option Bool → Gathered → Shape → Option (List ℕ) → Gathered
+abbrev pub put_as : Option Bool → Gathered → LiteralShape → Option (List ℕ) → Gathered
 put_as (Some truth) g s f = record { clause = g.clause; always = g.always || is_so s.positive truth; feature = g.feature }
 put_as None g s f = record { clause = g.clause ++ side_literals s.positive s.left s.right; always = g.always; feature = or_else g.feature f }
 
-abbrev pub put : Gathered → Shape → Option (List ℕ) → Gathered
+abbrev pub put : Gathered → LiteralShape → Option (List ℕ) → Gathered
 put g s f = put_as s.truth g s f
 
 -- ---- symbols with too many arguments

@@ -19,16 +19,16 @@ seen f read = option_map (λ z. (f z.0, z.1)) read
 abbrev pub truth_of : Written → Option Bool
 truth_of t = if is_truth (codes "$true") t then Some true else (if is_truth (codes "$false") t then Some false else None)
 
-pub record Shape : Type 0 where
+pub record LiteralShape : Type 0 where
   pub positive : Bool
   pub left : Tree
   pub right : Option Tree
   pub truth : Option Bool
 
-abbrev pub shape : Atomic → Shape
+abbrev pub shape : Atomic → LiteralShape
 shape a = record { positive = a.positive; left = tree a.left; right = option_map tree a.right; truth = a.truth }
 
-abbrev pub shape_of : List (List ℕ) → Wrote → Shape
+abbrev pub shape_of : List (List ℕ) → Wrote → LiteralShape
 shape_of vs (predicate sign t) = record { positive = sign; left = tree_of vs t; right = None; truth = truth_of t }
 shape_of vs (equal sign t u) = record { positive = sign; left = tree_of vs t; right = Some (tree_of vs u); truth = None }
 

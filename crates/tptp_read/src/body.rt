@@ -29,7 +29,7 @@ pub(crate) struct Body<'a> {
 }
 
 // The clause in no more memory than it takes: a list that was pushed to has room for more.
-fn tight_clause(clause: Clause) -> Clause
+fn shrink_clause(clause: Clause) -> Clause
     ensures { result ≡ clause }
 {
     let mut literals: Vec<Literal> = Vec::from(clause);
@@ -50,7 +50,7 @@ fn disjunction<'a>(reader: &Reader<'_, 'a>, at: usize) -> Result<(Literals<'a>, 
     let depth = reader.tokens.len();
     let after = item(reader, depth, depth, at, &mut literals)?;
     let after = items(reader, depth, depth, after, &mut literals)?;
-    literals.clause = tight_clause(literals.clause);
+    literals.clause = shrink_clause(literals.clause);
     Ok((literals, after))
 }
 

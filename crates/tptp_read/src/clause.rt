@@ -15,7 +15,7 @@ use crate::lexeme::Lexeme;
 use crate::literals::{Atomic, literal};
 use crate::reader::Reader;
 use crate::stop::Stop;
-use crate::terms::tight_list;
+use crate::terms::shrink_list;
 use crate::words::{is_feature, stands_at};
 use inst_logic::{Clause, Kind, Literal, Memory, Name, Sym, Term, TermList};
 use std::alloc::Global;
@@ -81,7 +81,7 @@ fn push_equation(
     clause.push(Literal {
         positive,
         sym,
-        args: tight_list(args),
+        args: shrink_list(args),
     })
 }
 

@@ -88,7 +88,7 @@ fn application(
 }
 
 // The list in no more memory than it takes: a list that was pushed to has room for more.
-pub(crate) fn tight_list(args: TermList) -> TermList
+pub(crate) fn shrink_list(args: TermList) -> TermList
     ensures { result ≡ args }
 {
     let mut items: Vec<Term> = Vec::from(args);
@@ -115,5 +115,5 @@ fn arguments(
         args.push(t)?;
         next = after;
     }
-    Ok((tight_list(args), next))
+    Ok((shrink_list(args), next))
 }

@@ -27,4 +27,4 @@ pub returns-clause-is : goal.returns-clause-is
 returns-clause-is c =
     parts_read (texts c.args.reader.now.vars.now.keys) (gathered c.item.new.into) (gathered c.items.new.into) (length c.args.reader.now.tokens.now) (toks (drop c.args.at c.args.reader.now.tokens.now)) (toks (drop c.in_ok-after.after c.args.reader.now.tokens.now)) (toks (drop c.in_ok-after-2.after c.args.reader.now.tokens.now))
     (subst (λ (g : Gathered). seen (of_item (texts c.args.reader.now.vars.now.keys) g) (item_at (length c.args.reader.now.tokens.now) (length c.args.reader.now.tokens.now) (toks (drop c.args.at c.args.reader.now.tokens.now))) ≡ Some (gathered c.item.new.into, toks (drop c.in_ok-after.after c.args.reader.now.tokens.now))) (ap started c.new.ensures) c.in_ok-after.ensures.is) c.in_ok-after-2.ensures.is
-    ∙ ap (λ clause. Some (gathered (record { clause = clause; always = c.items.new.into.always; feature = c.items.new.into.feature }), toks (drop c.in_ok-after-2.after c.args.reader.now.tokens.now))) (sym c.tight_clause.ensures)
+    ∙ ap (λ clause. Some (gathered (record { clause = clause; always = c.items.new.into.always; feature = c.items.new.into.feature }), toks (drop c.in_ok-after-2.after c.args.reader.now.tokens.now))) (sym c.shrink_clause.ensures)

@@ -23,7 +23,7 @@ term-returns-then-at-reader-clause-is t c = ap (λ r. in_trees (texts c.args.rea
 
 pub arguments-returns-clause-is : goal.arguments-returns-clause-is
 arguments-returns-clause-is t c = arguments_done (texts c.args.reader.now.vars.now.keys) c.args.depth (toks (drop c.loop-args.next c.args.reader.now.tokens.now)) c.loop-args.args _ (sym c.stands_at.ensures.is ∙ c.loop-args-test.false) c.loop-args.invariant.total
-    ∙ ap (λ args. Some (args, toks (drop c.loop-args.next c.args.reader.now.tokens.now))) (sym c.tight_list.ensures)
+    ∙ ap (λ args. Some (args, toks (drop c.loop-args.next c.args.reader.now.tokens.now))) (sym c.shrink_list.ensures)
 
 pub term-returns-then-depth-eq0-clause-is : goal.term-returns-then-depth-eq0-clause-is
 term-returns-then-depth-eq0-clause-is t c =
