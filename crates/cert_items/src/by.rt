@@ -34,10 +34,10 @@ fn part<'a>(reader: &mut ItemReader, bytes: &'a [u8]) -> Result<Option<(By, &'a 
     ensures none { IfOk result (λ r. IfNone r (NoBy (codes "part(m" ++ bytes.now))) }
     ensures grows { Grows reader.old reader.new }
 {
-    match number_and_terms(reader, bytes)? {
-        None => Ok(None),
-        Some((member, terms, rest)) => Ok(Some((By::Part { member, terms }, rest))),
-    }
+    let Some((member, terms, rest)) = number_and_terms(reader, bytes)? else {
+        return Ok(None);
+    };
+    Ok(Some((By::Part { member, terms }, rest)))
 }
 
 /// What covers a clause, at the front, and what follows it. What covers an instance is mostly a variant, so that word is tried
@@ -58,8 +58,8 @@ pub fn read_by<'a>(
     if let Some(after) = word(bytes, b"part(m") {
         return part(reader, after);
     }
-    match word(bytes, b"tautology") {
-        None => Ok(None),
-        Some(rest) => Ok(Some((By::Tautology, rest))),
-    }
+    let Some(rest) = word(bytes, b"tautology") else {
+        return Ok(None);
+    };
+    Ok(Some((By::Tautology, rest)))
 }

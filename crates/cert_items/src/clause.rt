@@ -45,13 +45,13 @@ fn item<'a>(
     match literal(bank, ids, rest) {
         Err(e) => Err(e),
         Ok(None) => Ok(None),
-        Ok(Some((l, after))) => match go_on(after) {
-            None => Ok(None),
-            Some(next) => {
-                literals.push(l)?;
-                Ok(Some(next))
-            }
-        },
+        Ok(Some((l, after))) => {
+            let Some(next) = go_on(after) else {
+                return Ok(None);
+            };
+            literals.push(l)?;
+            Ok(Some(next))
+        }
     }
 }
 
@@ -73,13 +73,11 @@ pub fn clause<'a>(
     let mut ended = false;
     let mut rest = bytes;
     while !ended {
-        match item(bank, ids, literals, rest)? {
-            None => return Ok(None),
-            Some(next) => {
-                ended = next.ended;
-                rest = next.rest;
-            }
-        }
+        let Some(next) = item(bank, ids, literals, rest)? else {
+            return Ok(None);
+        };
+        ended = next.ended;
+        rest = next.rest;
     }
     Ok(Some(rest))
 }

@@ -25,18 +25,18 @@ fn letter(bytes: &[u8]) -> Option<(Group, &[u8])>
     ensures some { IfSome result (λ r. bytes.now ≡ letter_of r.0 ∷ r.1.now) }
     ensures none { IfNone result ((g : Group) (rest : List ℕ) → bytes.now ≢ letter_of g ∷ rest) }
 {
-    match bytes {
-        [] => None,
-        [first, rest @ ..] => match *first {
-            b'i' => Some((Group::Input, rest)),
-            b'e' => Some((Group::Axiom, rest)),
-            b'm' => Some((Group::Member, rest)),
-            b'g' => Some((Group::Ground, rest)),
-            b'r' => Some((Group::Step, rest)),
-            b'q' => Some((Group::Shown, rest)),
-            b'c' => Some((Group::Cover, rest)),
-            _ => None,
-        },
+    let [first, rest @ ..] = bytes else {
+        return None;
+    };
+    match *first {
+        b'i' => Some((Group::Input, rest)),
+        b'e' => Some((Group::Axiom, rest)),
+        b'm' => Some((Group::Member, rest)),
+        b'g' => Some((Group::Ground, rest)),
+        b'r' => Some((Group::Step, rest)),
+        b'q' => Some((Group::Shown, rest)),
+        b'c' => Some((Group::Cover, rest)),
+        _ => None,
     }
 }
 

@@ -74,13 +74,11 @@ pub fn read_hints<'a>(
     let mut ended = false;
     let mut rest = bytes;
     while !ended {
-        match item(list, rest)? {
-            None => return Ok(None),
-            Some(next) => {
-                ended = next.ended;
-                rest = next.rest;
-            }
-        }
+        let Some(next) = item(list, rest)? else {
+            return Ok(None);
+        };
+        ended = next.ended;
+        rest = next.rest;
     }
     Ok(Some(rest))
 }

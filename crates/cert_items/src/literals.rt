@@ -54,10 +54,10 @@ fn head<'a>(
     let Some(inner) = mark(after, b'(') else {
         return Ok(Some((Root::Application(name), after)));
     };
-    match terms(bank, ids, inner, b')')? {
-        None => Ok(None),
-        Some(rest) => Ok(Some((Root::Application(name), rest))),
-    }
+    let Some(rest) = terms(bank, ids, inner, b')')? else {
+        return Ok(None);
+    };
+    Ok(Some((Root::Application(name), rest)))
 }
 
 // The term of this root.
@@ -175,22 +175,18 @@ fn literal_by_root<'a>(
     ensures some { IfOk result (λ r. IfSome r (λ p. IsLiteralAt bank.new p.0 bytes.now p.1.now)) }
     ensures none { ((rest : List ℕ) → bytes.now ≢ byte.tilde ∷ rest) → IfOk result (λ r. IfNone r (NoForm bytes.now)) }
 {
-    match head(bank, ids, bytes)? {
-        None => Ok(None),
-        Some((root, rest)) => match equality_sign(rest) {
-            Some((positive, after)) => {
-                let left = whole(bank, &root, ids.as_slice())?;
-                equal(bank, ids, positive, left, bytes, after)
-            }
-            None => match root {
-                Root::Variable(_) => Ok(None),
-                Root::Application(name) => {
-                    let l = predicate(bank, true, name, ids.as_slice())?;
-                    Ok(Some((l, rest)))
-                }
-            },
-        },
+    let Some((root, rest)) = head(bank, ids, bytes)? else {
+        return Ok(None);
+    };
+    if let Some((positive, after)) = equality_sign(rest) {
+        let left = whole(bank, &root, ids.as_slice())?;
+        return equal(bank, ids, positive, left, bytes, after);
     }
+    let Root::Application(name) = root else {
+        return Ok(None);
+    };
+    let l = predicate(bank, true, name, ids.as_slice())?;
+    Ok(Some((l, rest)))
 }
 
 // The literal behind a `~`.
@@ -203,19 +199,17 @@ fn negative_literal<'a>(
     ensures some { IfOk result (λ r. IfSome r (λ p. IsLiteralAt bank.new p.0 (byte.tilde ∷ bytes.now) p.1.now)) }
     ensures none { IfOk result (λ r. IfNone r (NoForm (byte.tilde ∷ bytes.now))) }
 {
-    match head(bank, ids, bytes)? {
-        None => Ok(None),
-        Some((root, rest)) => match root {
-            Root::Variable(_) => Ok(None),
-            Root::Application(name) => match equality_sign(rest) {
-                Some(_) => Ok(None),
-                None => {
-                    let l = predicate(bank, false, name, ids.as_slice())?;
-                    Ok(Some((l, rest)))
-                }
-            },
-        },
+    let Some((root, rest)) = head(bank, ids, bytes)? else {
+        return Ok(None);
+    };
+    let Root::Application(name) = root else {
+        return Ok(None);
+    };
+    if equality_sign(rest).is_some() {
+        return Ok(None);
     }
+    let l = predicate(bank, false, name, ids.as_slice())?;
+    Ok(Some((l, rest)))
 }
 
 // The literal at the front, read term by term, and what follows it.

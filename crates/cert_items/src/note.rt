@@ -74,16 +74,15 @@ fn member_note(
     ensures none { (n : ℕ) → IfOk result (λ r. IfNone r (NoNote shape InMembers n bytes.now)) }
 {
     if shape.refutation {
-        match read_origin(alloc, shape.format, bytes)? {
-            None => Ok(None),
-            Some((o, rest)) => Ok(Some((Note::Member(o), rest))),
-        }
-    } else {
-        match origin_and_place(alloc, shape.format, bytes)? {
-            None => Ok(None),
-            Some((o, p, rest)) => Ok(Some((Note::Selected(o, p), rest))),
-        }
+        let Some((o, rest)) = read_origin(alloc, shape.format, bytes)? else {
+            return Ok(None);
+        };
+        return Ok(Some((Note::Member(o), rest)));
     }
+    let Some((o, p, rest)) = origin_and_place(alloc, shape.format, bytes)? else {
+        return Ok(None);
+    };
+    Ok(Some((Note::Selected(o, p), rest)))
 }
 
 // The note of a ground clause in the first format.
@@ -117,10 +116,10 @@ fn ground_by<'a>(
     let Some(after) = word(bytes, b"ground(") else {
         return Ok(None);
     };
-    match number_and_terms(reader, after)? {
-        None => Ok(None),
-        Some((input, terms, rest)) => Ok(Some((Note::GroundBy(input, terms), rest))),
-    }
+    let Some((input, terms, rest)) = number_and_terms(reader, after)? else {
+        return Ok(None);
+    };
+    Ok(Some((Note::GroundBy(input, terms), rest)))
 }
 
 fn ground_note<'a>(
@@ -160,10 +159,10 @@ fn step_note<'a>(
         return Ok(None);
     };
     let mut hints = GroundHintList::new(alloc);
-    match read_hints(&mut hints, after)? {
-        None => Ok(None),
-        Some(rest) => Ok(Some((Note::Hinted(hints), rest))),
-    }
+    let Some(rest) = read_hints(&mut hints, after)? else {
+        return Ok(None);
+    };
+    Ok(Some((Note::Hinted(hints), rest)))
 }
 
 fn shown_note<'a>(
@@ -179,10 +178,10 @@ fn shown_note<'a>(
     if !shape.names_covers() {
         return Ok(None);
     }
-    match read_by(reader, bytes)? {
-        None => Ok(None),
-        Some((by, rest)) => Ok(Some((Note::InputBy(by), rest))),
-    }
+    let Some((by, rest)) = read_by(reader, bytes)? else {
+        return Ok(None);
+    };
+    Ok(Some((Note::InputBy(by), rest)))
 }
 
 fn cover_note<'a>(
@@ -256,8 +255,8 @@ pub fn last_note<'a>(
     let Some((note, behind)) = read_note(reader, shape, group, n, bytes)? else {
         return Ok(None);
     };
-    match word(behind, b").\n") {
-        None => Ok(None),
-        Some(rest) => Ok(Some((note, rest))),
-    }
+    let Some(rest) = word(behind, b").\n") else {
+        return Ok(None);
+    };
+    Ok(Some((note, rest)))
 }

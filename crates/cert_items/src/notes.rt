@@ -18,16 +18,10 @@ pub fn statement_name(bytes: &[u8]) -> Option<(&[u8], &[u8])>
     ensures some { IfSome result (λ r. (bytes.now ≡ codes "named(" ++ (r.0.now ++ byte.closing_parenthesis ∷ r.1.now)) × IsNameText r.0.now) }
     ensures none { IfNone result ((w rest : List ℕ) → IsTrue (is_readable_name w) → bytes.now ≢ codes "named(" ++ (name_text w ++ byte.closing_parenthesis ∷ rest)) }
 {
-    match word(bytes, b"named(") {
-        None => None,
-        Some(after) => match name(after) {
-            None => None,
-            Some((text, behind)) => match mark(behind, b')') {
-                None => None,
-                Some(rest) => Some((text, rest)),
-            },
-        },
-    }
+    let after = word(bytes, b"named(")?;
+    let (text, behind) = name(after)?;
+    let rest = mark(behind, b')')?;
+    Some((text, rest))
 }
 
 /// The member that a ground clause comes from, and what follows the parenthesis behind it.
@@ -36,10 +30,8 @@ pub fn ground_member(bytes: &[u8]) -> Option<(usize, &[u8])>
     ensures fits { IfSome result (λ r. r.0 < 2 ^ 64) }
     ensures none { IfNone result ((n : ℕ) (rest : List ℕ) → n < 2 ^ 64 → bytes.now ≢ codes "ground(m" ++ (decimal n ++ byte.closing_parenthesis ∷ rest)) }
 {
-    match word(bytes, b"ground(m") {
-        None => None,
-        Some(after) => number_before(after, b')'),
-    }
+    let after = word(bytes, b"ground(m")?;
+    number_before(after, b')')
 }
 
 // The two members of a cover, and what follows the comma behind them.

@@ -48,10 +48,8 @@ fn with_digit(n: usize, digit: u8) -> Option<usize>
     ensures fits { IfSome result (λ m. m < 2 ^ 64) }
     ensures none { IfNone result (2 ^ 64 ≤ n * 10 + (digit - byte.digit_zero)) }
 {
-    match n.checked_mul(10) {
-        Some(tens) => tens.checked_add(usize::from(digit - b'0')),
-        None => None,
-    }
+    let tens = n.checked_mul(10)?;
+    tens.checked_add(usize::from(digit - b'0'))
 }
 
 // The value of the digits at the front, and how many there are; `None` where it is no `usize`. Hardly any number is so long that it
@@ -67,10 +65,7 @@ fn digits_value(bytes: &[u8]) -> Option<(usize, usize)>
     let mut n: usize = 0;
     let mut len = 0;
     while len < bytes.len() && bytes[len].is_ascii_digit() {
-        match with_digit(n, bytes[len]) {
-            Some(m) => n = m,
-            None => return None,
-        }
+        n = with_digit(n, bytes[len])?;
         len += 1;
     }
     Some((n, len))

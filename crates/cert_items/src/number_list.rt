@@ -57,13 +57,11 @@ fn read_numbers<'a>(
     let mut ended = false;
     let mut rest = bytes;
     while !ended {
-        match item(list, letter, rest)? {
-            None => return Ok(None),
-            Some(next) => {
-                ended = next.ended;
-                rest = next.rest;
-            }
-        }
+        let Some(next) = item(list, letter, rest)? else {
+            return Ok(None);
+        };
+        ended = next.ended;
+        rest = next.rest;
     }
     Ok(Some(rest))
 }
@@ -81,8 +79,8 @@ pub fn number_list<'a>(
     if let Some(rest) = mark(bytes, b']') {
         return Ok(Some((list, rest)));
     }
-    match read_numbers(&mut list, letter, bytes)? {
-        None => Ok(None),
-        Some(rest) => Ok(Some((list, rest))),
-    }
+    let Some(rest) = read_numbers(&mut list, letter, bytes)? else {
+        return Ok(None);
+    };
+    Ok(Some((list, rest)))
 }

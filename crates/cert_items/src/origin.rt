@@ -101,10 +101,10 @@ fn lists(alloc: Global, bytes: &[u8]) -> Result<Option<(PlaceList, NumberList, &
     let Some((premises, behind)) = number_list(alloc, b"m", second)? else {
         return Ok(None);
     };
-    match mark(behind, b')') {
-        None => Ok(None),
-        Some(rest) => Ok(Some((keep, premises, rest))),
-    }
+    let Some(rest) = mark(behind, b')') else {
+        return Ok(None);
+    };
+    Ok(Some((keep, premises, rest)))
 }
 
 // The numbers of a part of an instance, and what follows the parenthesis behind them. The first format has none.
@@ -151,8 +151,8 @@ pub fn read_origin(
     if let Some(after) = word(bytes, b"inst(m") {
         return Ok(inst(after));
     }
-    match word(bytes, b"lemma(m") {
-        None => Ok(None),
-        Some(after) => lemma(alloc, format, after),
-    }
+    let Some(after) = word(bytes, b"lemma(m") else {
+        return Ok(None);
+    };
+    lemma(alloc, format, after)
 }

@@ -19,16 +19,10 @@ fn place(bytes: &[u8]) -> Option<(usize, &[u8])>
     ensures fits { IfSome result (λ r. r.0 < 2 ^ 64) }
     ensures none { IfNone result ((p : ℕ) (rest : List ℕ) → p < 2 ^ 64 → bytes.now ≢ codes ",[selected(" ++ (decimal p ++ byte.closing_parenthesis ∷ byte.closing_bracket ∷ rest)) }
 {
-    match word(bytes, b",[selected(") {
-        None => None,
-        Some(after) => match number_before(after, b')') {
-            None => None,
-            Some((p, behind)) => match mark(behind, b']') {
-                None => None,
-                Some(rest) => Some((p, rest)),
-            },
-        },
-    }
+    let after = word(bytes, b",[selected(")?;
+    let (p, behind) = number_before(after, b')')?;
+    let rest = mark(behind, b']')?;
+    Some((p, rest))
 }
 
 /// The origin, of a text in the format, and the place at the front, and what follows them.
@@ -45,8 +39,8 @@ pub fn origin_and_place(
     let Some((o, after)) = read_origin(alloc, format, bytes)? else {
         return Ok(None);
     };
-    match place(after) {
-        None => Ok(None),
-        Some((p, rest)) => Ok(Some((o, p, rest))),
-    }
+    let Some((p, rest)) = place(after) else {
+        return Ok(None);
+    };
+    Ok(Some((o, p, rest)))
 }

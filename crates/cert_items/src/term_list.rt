@@ -71,8 +71,8 @@ pub fn number_and_terms<'a>(
     let Some((list, behind)) = term_list(reader, inner)? else {
         return Ok(None);
     };
-    match mark(behind, b')') {
-        None => Ok(None),
-        Some(rest) => Ok(Some((n, list, rest))),
-    }
+    let Some(rest) = mark(behind, b')') else {
+        return Ok(None);
+    };
+    Ok(Some((n, list, rest)))
 }

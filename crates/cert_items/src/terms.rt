@@ -109,10 +109,10 @@ fn begin<'a>(
     if let Some(digits) = mark(rest, b'X') {
         return begin_variable(bank, opens.as_slice(), ids, digits);
     }
-    match name(rest) {
-        None => Ok(None),
-        Some((name, after)) => begin_application(bank, opens, ids, name, after),
-    }
+    let Some((name, after)) = name(rest) else {
+        return Ok(None);
+    };
+    begin_application(bank, opens, ids, name, after)
 }
 
 // Makes the innermost application, whose arguments have ended.
@@ -162,16 +162,13 @@ fn go_on<'a>(
     ensures shorter { IfOk result (λ r. IfSome r (λ left. length left.rest.now < length rest.now)) }
     ensures none { IfOk result (λ r. IfNone r (IsStuck opens.old.items rest.now)) }
 {
-    match mark(rest, b',') {
-        Some(after) => Ok(Some(Left {
-            due: true,
-            rest: after,
-        })),
-        None => match mark(rest, b')') {
-            Some(after) => close(bank, opens, ids, text, after),
-            None => Ok(None),
-        },
+    if let Some(rest) = mark(rest, b',') {
+        return Ok(Some(Left { due: true, rest }));
     }
+    let Some(after) = mark(rest, b')') else {
+        return Ok(None);
+    };
+    close(bank, opens, ids, text, after)
 }
 
 // One step of reading, where the terms have not ended.
@@ -215,13 +212,11 @@ pub fn terms<'a>(
     let mut due = true;
     let mut rest = text;
     while due || !opens.is_empty() || !begins(rest, close) {
-        match step(bank, &mut opens, ids, text, close, Left { due, rest })? {
-            None => return Ok(None),
-            Some(left) => {
-                due = left.due;
-                rest = left.rest;
-            }
-        }
+        let Some(left) = step(bank, &mut opens, ids, text, close, Left { due, rest })? else {
+            return Ok(None);
+        };
+        due = left.due;
+        rest = left.rest;
     }
     Ok(mark(rest, close))
 }

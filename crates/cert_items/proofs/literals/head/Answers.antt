@@ -11,7 +11,7 @@ returns-then-goes_on-clause-none c t rest p f e =
 none_is : (r : Option (Bor (List ℕ))) (P : Type 0) → r ≡ None → IfNone r P → P
 none_is r P e h = subst (λ (x : Option (Bor (List ℕ))). IfNone x P) e h
 
-pub returns-in-None-clause-none : goal.returns-in-None-clause-none
-returns-in-None-clause-none c =
+pub returns-in_default-2-clause-none : goal.returns-in_default-2-clause-none
+returns-in_default-2-clause-none c =
     no_arguments c.args.bytes.now c.in-Some-name.name.now c.in-Some-mark.inner.now c.in-Some-name.ensures.some.1 (c.in-Some-name.ensures.some.0 ∙ ap (λ (xs : List ℕ). c.in-Some-name.name.now ++ xs) c.in-Some-mark.ensures.some)
-    (none_is c.in_ok-terms.field-0 (NoTerms c.in-Some-mark.inner.now 41) c.in-None.is c.in_ok-terms.ensures.none)
+    (none_is c.in_ok-rest.field-0 (NoTerms c.in-Some-mark.inner.now 41) c.in_default-2.is c.in_ok-rest.ensures.none)

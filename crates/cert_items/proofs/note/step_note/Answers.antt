@@ -10,6 +10,6 @@ returns-then-not-shape-clause-none c n = no_step_form c.args.shape n c.args.byte
 
 pub returns-clause-some : goal.returns-clause-some
 returns-clause-some c n f =
-    let h = is_some c.in_ok-read_hints.field-0 c.in-Some-2.rest (λ (x : Bor (List ℕ)). HasHints c.read_hints.new.list true c.in-Some.after.now x.now) c.in-Some-2.is c.in_ok-read_hints.ensures.some in
+    let h = is_some c.in_ok-rest.field-0 c.in-Some-2.rest (λ (x : Bor (List ℕ)). HasHints c.read_hints.new.list true c.in-Some.after.now x.now) c.in-Some-2.is c.in_ok-rest.ensures.some in
     step_note c.args.shape n (map hint_of c.read_hints.new.list) c.args.bytes.now c.in-Some.after.now c.in-Some-2.rest.now c.if-not-shape.false c.in-Some.ensures.some h.is h.printable
     (λ e. h.some refl (no_map hint_of c.read_hints.new.list e))

@@ -19,12 +19,12 @@ returns-in_default-3-clause-none c =
     let first = is_some c.in_ok-keep.field-0 (k.keep, k.between) (λ p. HasNumbers [] p.0 true s.first.now p.1.now) k.is c.in_ok-keep.ensures.some in
     no_premises c.args.bytes.now s.first.now k.keep k.between.now w.second.now s.ensures.some first w.ensures.some (is_none c.in_ok-premises.field-0 (NoNumbers (109 ∷ []) w.second.now) c.in_default-3.is c.in_ok-premises.ensures.none)
 
-pub returns-in-None-clause-none : goal.returns-in-None-clause-none
-returns-in-None-clause-none c =
+pub returns-in_default-mark-clause-none : goal.returns-in_default-mark-clause-none
+returns-in_default-mark-clause-none c =
     let s = c.in-Some in
     let k = c.in-Some-2 in
     let w = c.in-Some-word in
     let l = c.in-Some-3 in
     let first = is_some c.in_ok-keep.field-0 (k.keep, k.between) (λ p. HasNumbers [] p.0 true s.first.now p.1.now) k.is c.in_ok-keep.ensures.some in
     let second = is_some c.in_ok-premises.field-0 (l.premises, l.behind) (λ p. HasNumbers (109 ∷ []) p.0 true w.second.now p.1.now) l.is c.in_ok-premises.ensures.some in
-    no_close c.args.bytes.now s.first.now k.keep k.between.now w.second.now l.premises l.behind.now s.ensures.some first w.ensures.some second c.in-None.ensures.none
+    no_close c.args.bytes.now s.first.now k.keep k.between.now w.second.now l.premises l.behind.now s.ensures.some first w.ensures.some second c.in_default-mark.ensures.none

@@ -20,8 +20,8 @@ returns-in_default-2-clause-none c =
     no_inner c.args.bytes.now s.after.now s.n s.ensures.some s.ensures.fits m.inner.now m.ensures.some
     (is_none k.field-0 ((ts : List Tree) (rest : List ℕ) → ArePrintable ts → m.inner.now ≢ texts.terms ts rest) c.in_default-2.is k.ensures.none)
 
-pub returns-in-None-clause-none : goal.returns-in-None-clause-none
-returns-in-None-clause-none c =
+pub returns-in_default-mark-2-clause-none : goal.returns-in_default-mark-2-clause-none
+returns-in_default-mark-2-clause-none c =
     let s = c.in-Some in
     let m = c.in-Some-mark in
     let r = c.in_ok-list in
@@ -29,4 +29,4 @@ returns-in-None-clause-none c =
     let f = c.term_list.new.reader in
     let text = is_some r.field-0 (k.list, k.behind) (λ p. m.inner.now ≡ texts.terms (map (tree_at f) p.0) p.1.now) k.is r.ensures.some in
     let good = is_some r.field-0 (k.list, k.behind) (λ p. ArePrintable (map (tree_at f) p.0)) k.is r.ensures.printable in
-    no_parenthesis c.args.bytes.now s.after.now s.n s.ensures.some s.ensures.fits m.inner.now k.behind.now (map (tree_at f) k.list) m.ensures.some text good c.in-None.ensures.none
+    no_parenthesis c.args.bytes.now s.after.now s.n s.ensures.some s.ensures.fits m.inner.now k.behind.now (map (tree_at f) k.list) m.ensures.some text good c.in_default-mark-2.ensures.none
