@@ -19,7 +19,7 @@ use crate::packed_pair::PackedPair;
 use crate::scan::{first_open, other_open};
 use crate::values::Values;
 use crate::visit::pair_of_clause;
-use crate::watch::{Pair, Watch};
+use crate::watch::{Watch, WatchedPair};
 use crate::watch_list::WatchList;
 use inst_logic::Memory;
 use prop_logic::Lit;
@@ -40,7 +40,7 @@ fn watch_pair(
     lists: &mut [WatchList],
     pairs: &mut [PackedPair],
     number: usize,
-    pair: Pair,
+    pair: WatchedPair,
     binary: bool,
 ) -> Result<(), Memory>
     requires first { slot_of pair.first < length lists.old }
@@ -101,7 +101,7 @@ pub(crate) fn look_at(
         Some(second) => {
             arena.keep(number, clause)?;
             let binary = clause.len() == 2;
-            watch_pair(lists, pairs, number, Pair { first, second }, binary)?;
+            watch_pair(lists, pairs, number, WatchedPair { first, second }, binary)?;
             Ok(Look::Taken)
         }
         None => {

@@ -9,7 +9,7 @@ ghost use Rattle.cdcl_trail.specs.Values.{entries_of};
 ghost use Rattle.cdcl_trail.specs.Watch.{slot_of, list_at, pair_at, pair_of, HasBoth, AreWatched, IsMove};
 ghost use Rattle.cdcl_trail.specs.Running.{IsRunning, Visits};
 ghost use Rattle.cdcl_trail.specs.declared.watch.Watch.{Watch};
-ghost use Rattle.cdcl_trail.specs.declared.watch.Pair.{Pair};
+ghost use Rattle.cdcl_trail.specs.declared.watch.WatchedPair.{WatchedPair};
 
 use crate::arena::Arena;
 use crate::entry::Entry;
@@ -17,7 +17,7 @@ use crate::lists::{add_watch, drop_watch, put_watch, slot, watch_at};
 use crate::packed_pair::PackedPair;
 use crate::scan::next_open;
 use crate::values::Values;
-use crate::watch::{Pair, Spot, Watch};
+use crate::watch::{Spot, Watch, WatchedPair};
 use crate::watch_list::WatchList;
 use inst_logic::Memory;
 use prop_logic::Lit;
@@ -51,14 +51,14 @@ fn move_watch(
     requires other { slot_of watch.blocker < length lists.old }
     requires long { watch.binary ≡ false }
     requires small { length lists.old < 2 ^ 32 }
-    ensures watched { OnOk result ((clauses : List (Option (List (Signed ℕ)))) (w : Watch) (p : Pair) (c : List (Signed ℕ)) → w.number ≡ watch.number → IsMove clauses lists.old pairs.old spot.l watch.blocker next spot.place w p c → AreWatched clauses lists.new pairs.new) }
+    ensures watched { OnOk result ((clauses : List (Option (List (Signed ℕ)))) (w : Watch) (p : WatchedPair) (c : List (Signed ℕ)) → w.number ≡ watch.number → IsMove clauses lists.old pairs.old spot.l watch.blocker next spot.place w p c → AreWatched clauses lists.new pairs.new) }
     ensures lists { OnOk result ((w : Watch) → slice_get (list_at lists.old (slot_of spot.l)) spot.place ≡ Some w → list_at lists.new (slot_of spot.l) ≡ swap_remove (list_at lists.old (slot_of spot.l)) spot.place w) }
     ensures size { OnOk result (length lists.new ≡ length lists.old) }
     ensures pairs { OnOk result (pairs.new ≡ slice_set pairs.old watch.number (Some (pair_of watch.blocker next))) }
 {
     add_watch(lists, next, watch)?;
     drop_watch(lists, spot.l, spot.place);
-    let pair = Pair {
+    let pair = WatchedPair {
         first: watch.blocker,
         second: next,
     };
@@ -67,7 +67,7 @@ fn move_watch(
 }
 
 // What the clause of this number watches, if it watches.
-pub(crate) fn pair_of_clause(pairs: &[PackedPair], number: usize) -> Option<Pair>
+pub(crate) fn pair_of_clause(pairs: &[PackedPair], number: usize) -> Option<WatchedPair>
     ensures { result ≡ pair_at pairs.now number }
 {
     match pairs.get(number) {
@@ -85,7 +85,7 @@ fn look_from(pairs: &[PackedPair], number: usize) -> usize {
 }
 
 // The other literal of the pair.
-fn other_of(pair: Pair, l: Lit) -> Lit
+fn other_of(pair: WatchedPair, l: Lit) -> Lit
     ensures { (pair.first ≡ l) ⊎ (pair.second ≡ l) → HasBoth pair l result }
 {
     if pair.first == l {
@@ -108,7 +108,7 @@ fn settle(
     requires running { IsRunning clauses.now level values.old lists.old pairs.old }
     requires is_false { IsFalseIn (entries_of values.old) spot.l }
     requires watch { (w : Watch) × (slice_get (list_at lists.old (slot_of spot.l)) spot.place ≡ Some w) × (w.number ≡ watch.number) }
-    requires pair { (p : Pair) × (pair_at pairs.old watch.number ≡ Some p) × HasBoth p spot.l watch.blocker }
+    requires pair { (p : WatchedPair) × (pair_at pairs.old watch.number ≡ Some p) × HasBoth p spot.l watch.blocker }
     requires number { watch.number < 2 ^ 31 }
     requires long { watch.binary ≡ false }
     requires not_true { ¬ Contains (literals_of (entries_of values.old)) watch.blocker }

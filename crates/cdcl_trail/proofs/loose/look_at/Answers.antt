@@ -8,7 +8,7 @@ use Rattle.cdcl_trail.specs.Propagation.{IsFalseIn}
 use Rattle.cdcl_trail.specs.Running.{Runs}
 use Rattle.cdcl_trail.specs.Values.{entries_of}
 use Rattle.cdcl_trail.specs.Watch.{slot_of, pair_at, AreWatched}
-use Rattle.cdcl_trail.specs.declared.watch.Pair.{Pair}
+use Rattle.cdcl_trail.specs.declared.watch.WatchedPair.{WatchedPair}
 use Rattle.cdcl_trail.proofs.ScanLaws.{decided_false}
 use Rattle.cdcl_trail.proofs.VisitLaws.{runs_none, neither, atom_below, lists_small, slot_below, slot_injective}
 use Rattle.cdcl_trail.proofs.WatchLaws.{pair_at_set}
@@ -70,7 +70,7 @@ returns-in_ok-watch_pair-in-Some-other_open-clause-runs c =
 pub returns-in_ok-watch_pair-in-Some-other_open-clause-looked : goal.returns-in_ok-watch_pair-in-Some-other_open-clause-looked
 returns-in_ok-watch_pair-in-Some-other_open-clause-looked c d at e =
     let n = c.args.number in
-    let p : Pair = record { first = c.in-Some-first_open.first; second = c.in-Some-other_open.second } in
+    let p : WatchedPair = record { first = c.in-Some-first_open.first; second = c.in-Some-other_open.second } in
     none-some p (sym e ∙ ap (λ ps. pair_at ps n) c.in_ok-watch_pair-in-Some-other_open.ensures.pairs ∙ pair_at_set c.args.pairs.now n (Some p) (c.requires.room d at))
 
 pub returns-then-not-is_true-clause-running : goal.returns-then-not-is_true-clause-running
@@ -102,7 +102,7 @@ returns-else-not-is_true-clause-runs c = runs_none c.args.clauses.now c.args.lev
 pub returns-in_ok-watch_pair-in-Some-other_open-clause-copies : goal.returns-in_ok-watch_pair-in-Some-other_open-clause-copies
 returns-in_ok-watch_pair-in-Some-other_open-clause-copies c =
     let n = c.args.number in
-    let p : Pair = record { first = c.in-Some-first_open.first; second = c.in-Some-other_open.second } in
+    let p : WatchedPair = record { first = c.in-Some-first_open.first; second = c.in-Some-other_open.second } in
     let kept = c.in_ok-keep-in-Some-other_open.ensures in
     subst (AreCopies c.args.clauses.now c.keep.new.self) (sym c.in_ok-watch_pair-in-Some-other_open.ensures.pairs)
     (copied c.args.clauses.now c.args.arena.now c.keep.new.self c.args.pairs.now n p c.in-Some.clause.now c.requires.copies (sym c.in-Some.ensures) kept.here kept.others)
