@@ -49,16 +49,6 @@ pub(crate) fn watch_at(lists: &[WatchList], l: Lit, place: usize) -> Watch
     lists[slot(l)].at(place)
 }
 
-pub(crate) fn add_watch(lists: &mut [WatchList], l: Lit, watch: Watch) -> Result<(), Memory>
-    requires slot { slot_of l < length lists.old }
-    requires number { watch.number < 2 ^ 31 }
-    requires blocker { slot_of watch.blocker < 2 ^ 32 }
-    ensures added { OnOk result (lists.new ≡ slice_set lists.old (slot_of l) (list_at lists.old (slot_of l) ++ watch ∷ [])) }
-    ensures size { length lists.new ≡ length lists.old }
-{
-    lists[slot(l)].push(watch)
-}
-
 pub(crate) fn drop_watch(lists: &mut [WatchList], l: Lit, place: usize) -> Watch
     requires slot { slot_of l < length lists.old }
     requires place { place < length (list_at lists.old (slot_of l)) }
@@ -66,14 +56,4 @@ pub(crate) fn drop_watch(lists: &mut [WatchList], l: Lit, place: usize) -> Watch
     ensures dropped { lists.new ≡ slice_set lists.old (slot_of l) (swap_remove (list_at lists.old (slot_of l)) place result) }
 {
     lists[slot(l)].swap_remove(place)
-}
-
-pub(crate) fn put_watch(lists: &mut [WatchList], l: Lit, place: usize, watch: Watch)
-    requires slot { slot_of l < length lists.old }
-    requires place { place < length (list_at lists.old (slot_of l)) }
-    requires number { watch.number < 2 ^ 31 }
-    requires blocker { slot_of watch.blocker < 2 ^ 32 }
-    ensures { lists.new ≡ slice_set lists.old (slot_of l) (slice_set (list_at lists.old (slot_of l)) place watch) }
-{
-    lists[slot(l)].put(place, watch)
 }
