@@ -1,6 +1,6 @@
 // The watch lists of all literals, in one vector: for atom a, at place 2a that of its negative literal and at 2a + 1 that of
 // its positive one.
-ghost use Rattle.std.specs.Prelude.{◌≡◌, ◌++◌, ◌∷◌, [], ◌<◌, ◌≤◌, ◌^◌, length, slice_get, slice_set, Some, OnOk};
+ghost use Rattle.std.specs.Prelude.{◌≡◌, ◌<◌, ◌≤◌, ◌^◌, length, slice_get, slice_set, Some};
 ghost use Rattle.std.specs.List.{swap_remove};
 ghost use Rattle.cdcl_trail.specs.Packed.{literal_of};
 ghost use Rattle.cdcl_trail.specs.Watch.{slot_of, list_at};
@@ -46,7 +46,7 @@ pub(crate) fn watch_at(lists: &[WatchList], l: Lit, place: usize) -> Watch
     ensures watch { slice_get (list_at lists.now (slot_of l)) place ≡ Some result }
     ensures number { result.number < 2 ^ 31 }
 {
-    lists[slot(l)].at(place)
+    lists[slot(l)].at(place).get()
 }
 
 pub(crate) fn drop_watch(lists: &mut [WatchList], l: Lit, place: usize) -> Watch

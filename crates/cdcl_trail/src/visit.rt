@@ -168,7 +168,8 @@ fn visit_clause(
     settle(watched, clauses, level, spot, watch)
 }
 
-// Visits the clause of the watch at this place. One of two literals is not read: its other literal is the blocker.
+// Visits the clause of the watch at this place. One of two literals is not read: its other literal is the blocker. The blocker is
+// read before the rest of the watch, since most visits need no more.
 pub(crate) fn visit_at(
     watched: &mut WatchedValues,
     clauses: &Arena,
@@ -182,10 +183,10 @@ pub(crate) fn visit_at(
     ensures err { OnErr result (watched.new.values ≡ watched.old.values) }
     ensures size { length watched.new.lists.items ≡ length watched.old.lists.items }
 {
-    let watch = watched.watch_at(spot);
-    if watched.values.is_true(watch.blocker) {
+    if watched.values.is_true(watched.watch_at(spot).blocker()) {
         return Ok(Visit::Kept);
     }
+    let watch = watched.watch_at(spot).get();
     if !watch.binary {
         return visit_clause(watched, clauses, level, spot, watch.number);
     }

@@ -6,6 +6,7 @@ ghost use Rattle.cdcl_trail.specs.Watch.{slot_of, list_at, pair_at};
 
 use crate::lists::slot;
 use crate::packed_pair::PackedPair;
+use crate::packed_watch::PackedWatch;
 use crate::values::Values;
 use crate::visit::pair_of_clause;
 use crate::watch::{Spot, Watch, WatchedPair};
@@ -31,11 +32,10 @@ impl WatchedValues {
         self.lists[slot(l)].len()
     }
 
-    pub(crate) fn watch_at(&self, spot: Spot) -> Watch
+    pub(crate) fn watch_at(&self, spot: Spot) -> PackedWatch
         requires slot { slot_of spot.l < length self.now.lists.items }
         requires place { spot.place < length (list_at self.now.lists.items (slot_of spot.l)) }
-        ensures watch { slice_get (list_at self.now.lists.items (slot_of spot.l)) spot.place ≡ Some result }
-        ensures number { result.number < 2 ^ 31 }
+        ensures { slice_get (list_at self.now.lists.items (slot_of spot.l)) spot.place ≡ Some result }
     {
         self.lists[slot(spot.l)].at(spot.place)
     }
