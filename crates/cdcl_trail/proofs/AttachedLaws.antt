@@ -19,7 +19,7 @@ use Rattle.cdcl_trail.specs.Watching.{IsTrueAt, IsSettled}
 use Rattle.cdcl_trail.specs.declared.entry.Entry.{Entry}
 use Rattle.cdcl_trail.specs.declared.values.Values.{Values}
 use Rattle.cdcl_trail.specs.declared.watch.Head.{Head}
-use Rattle.cdcl_trail.specs.declared.watch.Pair.{Pair}
+use Rattle.cdcl_trail.specs.declared.watch.WatchedPair.{WatchedPair}
 use Rattle.cdcl_trail.specs.declared.watch.Watch.{Watch}
 use Rattle.cdcl_trail.proofs.CopyLaws.{copies_added}
 use Rattle.cdcl_trail.proofs.LevelLaws.{added_above, up_to_up_to, up_to_true, get_past, get_push, get_cut, get_within}
@@ -153,7 +153,7 @@ attached_back t w n clauses h a = record {
     same_head k low = get_cut w.heads n k w.head low
 
 -- propagation at the present level
-pub attached_propagated : (v v' : Values) (level : ℕ) (lists lists' : List (List Watch)) (pairs pairs' : List (Option Pair)) (copies copies' : List (Option (List (Signed ℕ)))) (loose loose' : List ℕ) (head head' : Head) (heads : List Head) (clauses : List (Option (List (Signed ℕ))))
+pub attached_propagated : (v v' : Values) (level : ℕ) (lists lists' : List (List Watch)) (pairs pairs' : List (Option WatchedPair)) (copies copies' : List (Option (List (Signed ℕ)))) (loose loose' : List ℕ) (head head' : Head) (heads : List Head) (clauses : List (Option (List (Signed ℕ))))
     → length heads ≡ level → AreAttached (cdcl_trail (at_level level v) (record { lists = lists; pairs = pairs; copies = copies; loose = loose; head = head; heads = heads })) clauses
     → IsRunning clauses level v' lists' pairs' → Runs clauses level v pairs v' pairs' → AreLoose clauses (entries_of v') pairs' loose' head'.passed → take head.passed loose' ≡ take head.passed loose → head.passed ≤ head'.passed
     → head'.place ≤ length (entries_of v') → IsSettled clauses pairs' (entries_of v') head'.place → AreCopies clauses copies' pairs'
@@ -239,7 +239,7 @@ attached_grown t w clauses a = record {
     same k = get_push (w.lists ++ [] ∷ []) k [] ∙ get_push w.lists k []
 
 -- one clause more, which watches nothing yet
-pub attached_added : (t : Trail) (w : Watching) (n : ℕ) (c : List (Signed ℕ)) (pairs : List (Option Pair)) (before after : List (Option (List (Signed ℕ)))) → AddsClause before after c n → AreAttached (cdcl_trail t w) before
+pub attached_added : (t : Trail) (w : Watching) (n : ℕ) (c : List (Signed ℕ)) (pairs : List (Option WatchedPair)) (before after : List (Option (List (Signed ℕ)))) → AddsClause before after c n → AreAttached (cdcl_trail t w) before
     → n < length pairs → ((k : ℕ) → pair_at pairs k ≡ pair_at w.pairs k) → length w.pairs ≤ length pairs → AreAttached (cdcl_trail t (record w { pairs = pairs; loose = w.loose ++ n ∷ [] })) after
 attached_added t w n c pairs before after adds a longer kept size = record {
   watched = record {

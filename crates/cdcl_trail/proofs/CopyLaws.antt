@@ -14,20 +14,20 @@ use Rattle.cdcl_trail.specs.Watch.{list_at, pair_at, AreWatched}
 use Rattle.cdcl_trail.specs.Watching.{IsSettled}
 use Rattle.cdcl_trail.specs.declared.entry.Entry.{Entry}
 use Rattle.cdcl_trail.specs.declared.values.Values.{Values}
-use Rattle.cdcl_trail.specs.declared.watch.Pair.{Pair}
+use Rattle.cdcl_trail.specs.declared.watch.WatchedPair.{WatchedPair}
 use Rattle.cdcl_trail.specs.declared.watch.Watch.{Watch}
 use Rattle.cdcl_trail.proofs.VisitLaws.{in_list, due_some}
 use Rattle.cdcl_trail.proofs.WatchLaws.{pair_at_other}
 
 -- the clause of a watch watches a pair
-pub watch_has_pair : (clauses : List (Option (List (Signed ℕ)))) (lists : List (List Watch)) (pairs : List (Option Pair)) (k : ℕ) (w : Watch) → AreWatched clauses lists pairs → Contains (list_at lists k) w → (p : Pair) × (pair_at pairs w.number ≡ Some p)
+pub watch_has_pair : (clauses : List (Option (List (Signed ℕ)))) (lists : List (List Watch)) (pairs : List (Option WatchedPair)) (k : ℕ) (w : Watch) → AreWatched clauses lists pairs → Contains (list_at lists k) w → (p : WatchedPair) × (pair_at pairs w.number ≡ Some p)
 watch_has_pair clauses lists pairs k w h has =
     let at = slice_get-Contains (list_at lists k) w has in
     let some = due_some (pair_at pairs w.number) k (subst (λ i. 0 < i) (h.counted k w.number) (in_list (list_at lists k) at.0 w at.1)) in
     (some.0, some.1)
 
 -- the copies are watched as the clauses are
-pub copies_watched : (clauses copies : List (Option (List (Signed ℕ)))) (lists : List (List Watch)) (pairs : List (Option Pair)) → AreCopies clauses copies pairs → AreWatched clauses lists pairs → AreWatched copies lists pairs
+pub copies_watched : (clauses copies : List (Option (List (Signed ℕ)))) (lists : List (List Watch)) (pairs : List (Option WatchedPair)) → AreCopies clauses copies pairs → AreWatched clauses lists pairs → AreWatched copies lists pairs
 copies_watched clauses copies lists pairs a h = record {
   blockers = λ k w c has at. h.blockers k w c has (a.there w.number c at);
   counted = h.counted;
@@ -36,7 +36,7 @@ copies_watched clauses copies lists pairs a h = record {
       record { clause = x.clause; here = a.watching n p at ∙ x.here; first = x.first; second = x.second; apart = x.apart };
 }
 
-pub copies_running : (clauses copies : List (Option (List (Signed ℕ)))) (level : ℕ) (v : Values) (lists : List (List Watch)) (pairs : List (Option Pair)) → AreCopies clauses copies pairs → IsRunning clauses level v lists pairs → IsRunning copies level v lists pairs
+pub copies_running : (clauses copies : List (Option (List (Signed ℕ)))) (level : ℕ) (v : Values) (lists : List (List Watch)) (pairs : List (Option WatchedPair)) → AreCopies clauses copies pairs → IsRunning clauses level v lists pairs → IsRunning copies level v lists pairs
 copies_running clauses copies level v lists pairs a r = record {
   values = r.values;
   trail = r.trail;
@@ -45,17 +45,17 @@ copies_running clauses copies level v lists pairs a r = record {
   below = λ n c at. r.below n c (a.there n c at);
 }
 
-pub copies_settled : (clauses copies : List (Option (List (Signed ℕ)))) (pairs pairs' : List (Option Pair)) (entries : List Entry) (h : ℕ) → AreCopies clauses copies pairs → IsSettled clauses pairs' entries h → IsSettled copies pairs' entries h
+pub copies_settled : (clauses copies : List (Option (List (Signed ℕ)))) (pairs pairs' : List (Option WatchedPair)) (entries : List Entry) (h : ℕ) → AreCopies clauses copies pairs → IsSettled clauses pairs' entries h → IsSettled copies pairs' entries h
 copies_settled clauses copies pairs pairs' entries h a s n p g at watches falsified c here = s n p g at watches falsified c (a.there n c here)
 
 -- after steps over the copies
-pub still_copies : (clauses copies : List (Option (List (Signed ℕ)))) (lists' : List (List Watch)) (pairs pairs' : List (Option Pair)) → AreCopies clauses copies pairs → AreWatched copies lists' pairs' → AreCopies clauses copies pairs'
+pub still_copies : (clauses copies : List (Option (List (Signed ℕ)))) (lists' : List (List Watch)) (pairs pairs' : List (Option WatchedPair)) → AreCopies clauses copies pairs → AreWatched copies lists' pairs' → AreCopies clauses copies pairs'
 still_copies clauses copies lists' pairs pairs' a h = record {
   there = a.there;
   watching = λ n p at. let x = h.of_clauses n p at in x.here ∙ sym (a.there n x.clause x.here);
 }
 
-pub clauses_watched : (clauses copies : List (Option (List (Signed ℕ)))) (lists' : List (List Watch)) (pairs' : List (Option Pair)) → AreCopies clauses copies pairs' → AreWatched copies lists' pairs' → AreWatched clauses lists' pairs'
+pub clauses_watched : (clauses copies : List (Option (List (Signed ℕ)))) (lists' : List (List Watch)) (pairs' : List (Option WatchedPair)) → AreCopies clauses copies pairs' → AreWatched copies lists' pairs' → AreWatched clauses lists' pairs'
 clauses_watched clauses copies lists' pairs' a h = record {
   blockers = λ k w c has at.
       let p = watch_has_pair copies lists' pairs' k w h has in
@@ -66,7 +66,7 @@ clauses_watched clauses copies lists' pairs' a h = record {
       record { clause = x.clause; here = a.there n x.clause x.here; first = x.first; second = x.second; apart = x.apart };
 }
 
-pub clauses_running : (clauses copies : List (Option (List (Signed ℕ)))) (level : ℕ) (v v' : Values) (lists' : List (List Watch)) (pairs' : List (Option Pair)) → AreCopies clauses copies pairs' → ClausesBelow (length v.entries.items) clauses → length v'.entries.items ≡ length v.entries.items
+pub clauses_running : (clauses copies : List (Option (List (Signed ℕ)))) (level : ℕ) (v v' : Values) (lists' : List (List Watch)) (pairs' : List (Option WatchedPair)) → AreCopies clauses copies pairs' → ClausesBelow (length v.entries.items) clauses → length v'.entries.items ≡ length v.entries.items
     → IsRunning copies level v' lists' pairs' → IsRunning clauses level v' lists' pairs'
 clauses_running clauses copies level v v' lists' pairs' a below size r = record {
   values = r.values;
@@ -76,7 +76,7 @@ clauses_running clauses copies level v v' lists' pairs' a below size r = record 
   below = subst (λ m. ClausesBelow m clauses) (sym size) below;
 }
 
-pub clauses_given : (clauses copies : List (Option (List (Signed ℕ)))) (pairs : List (Option Pair)) (old new : Trail) → AreCopies clauses copies pairs → Propagates copies old new → Propagates clauses old new
+pub clauses_given : (clauses copies : List (Option (List (Signed ℕ)))) (pairs : List (Option WatchedPair)) (old new : Trail) → AreCopies clauses copies pairs → Propagates copies old new → Propagates clauses old new
 clauses_given clauses copies pairs old new a p = record {
   atoms = p.atoms;
   level = p.level;
@@ -85,10 +85,10 @@ clauses_given clauses copies pairs old new a p = record {
   given = λ k e h get. let x = p.given k e h get in (x.0, x.1, x.2, a.there x.0 x.1 x.3, x.4);
 }
 
-pub clauses_settled : (clauses copies : List (Option (List (Signed ℕ)))) (pairs' : List (Option Pair)) (entries : List Entry) (h : ℕ) → AreCopies clauses copies pairs' → IsSettled copies pairs' entries h → IsSettled clauses pairs' entries h
+pub clauses_settled : (clauses copies : List (Option (List (Signed ℕ)))) (pairs' : List (Option WatchedPair)) (entries : List Entry) (h : ℕ) → AreCopies clauses copies pairs' → IsSettled copies pairs' entries h → IsSettled clauses pairs' entries h
 clauses_settled clauses copies pairs' entries h a s n p g at watches falsified c here = s n p g at watches falsified c (a.watching n p at ∙ here)
 
-pub clauses_runs : (clauses copies : List (Option (List (Signed ℕ)))) (level : ℕ) (v v' : Values) (pairs pairs' : List (Option Pair)) → AreCopies clauses copies pairs → AreCopies clauses copies pairs' → Runs copies level v pairs v' pairs' → Runs clauses level v pairs v' pairs'
+pub clauses_runs : (clauses copies : List (Option (List (Signed ℕ)))) (level : ℕ) (v v' : Values) (pairs pairs' : List (Option WatchedPair)) → AreCopies clauses copies pairs → AreCopies clauses copies pairs' → Runs copies level v pairs v' pairs' → Runs clauses level v pairs v' pairs'
 clauses_runs clauses copies level v v' pairs pairs' a b r = record {
   added = clauses_given clauses copies pairs (at_level level v) (at_level level v') a r.added;
   kept = λ part h within settled. clauses_settled clauses copies pairs' part h b (r.kept part h within (copies_settled clauses copies pairs pairs part h a settled));
@@ -96,11 +96,11 @@ clauses_runs clauses copies level v v' pairs pairs' a b r = record {
   room = r.room;
 }
 
-pub clauses_conflict : (clauses copies : List (Option (List (Signed ℕ)))) (pairs : List (Option Pair)) (entries : List Entry) (n : ℕ) → AreCopies clauses copies pairs → IsConflict copies entries n → IsConflict clauses entries n
+pub clauses_conflict : (clauses copies : List (Option (List (Signed ℕ)))) (pairs : List (Option WatchedPair)) (entries : List Entry) (n : ℕ) → AreCopies clauses copies pairs → IsConflict copies entries n → IsConflict clauses entries n
 clauses_conflict clauses copies pairs entries n a x = (x.0, a.there n x.0 x.1, x.2)
 
 -- a clause that begins to watch is copied
-pub copied : (clauses copies copies' : List (Option (List (Signed ℕ)))) (pairs : List (Option Pair)) (n : ℕ) (p : Pair) (c : List (Signed ℕ)) → AreCopies clauses copies pairs → clause_number clauses n ≡ Some c
+pub copied : (clauses copies copies' : List (Option (List (Signed ℕ)))) (pairs : List (Option WatchedPair)) (n : ℕ) (p : WatchedPair) (c : List (Signed ℕ)) → AreCopies clauses copies pairs → clause_number clauses n ≡ Some c
     → clause_number copies' n ≡ Some c → ((k : ℕ) → k ≢ n → clause_number copies' k ≡ clause_number copies k) → AreCopies clauses copies' (set pairs n (Some p))
 copied clauses copies copies' pairs n p c a at here others = record {
   there = λ m d e. elim (cases_eq m n) [
@@ -114,7 +114,7 @@ copied clauses copies copies' pairs n p c a at here others = record {
 }
 
 -- a clause more, of which there is no copy yet
-pub copies_added : (before after copies : List (Option (List (Signed ℕ)))) (pairs pairs' : List (Option Pair)) (n : ℕ) (c : List (Signed ℕ)) → AddsClause before after c n → ((m : ℕ) (p : Pair) → pair_at pairs' m ≡ Some p → (m ≢ n) × (pair_at pairs m ≡ Some p))
+pub copies_added : (before after copies : List (Option (List (Signed ℕ)))) (pairs pairs' : List (Option WatchedPair)) (n : ℕ) (c : List (Signed ℕ)) → AddsClause before after c n → ((m : ℕ) (p : WatchedPair) → pair_at pairs' m ≡ Some p → (m ≢ n) × (pair_at pairs m ≡ Some p))
     → AreCopies before copies pairs → AreCopies after copies pairs'
 copies_added before after copies pairs pairs' n c adds others a = record {
   there = λ m d e.
@@ -124,7 +124,7 @@ copies_added before after copies pairs pairs' n c adds others a = record {
 }
 
 -- the clause goes with its copy
-pub copies_removed : (before after copies copies' : List (Option (List (Signed ℕ)))) (pairs pairs' : List (Option Pair)) (n : ℕ) → RemovesClause before after n → RemovesClause copies copies' n → ((m : ℕ) (p : Pair) → pair_at pairs' m ≡ Some p → (m ≢ n) × (pair_at pairs m ≡ Some p))
+pub copies_removed : (before after copies copies' : List (Option (List (Signed ℕ)))) (pairs pairs' : List (Option WatchedPair)) (n : ℕ) → RemovesClause before after n → RemovesClause copies copies' n → ((m : ℕ) (p : WatchedPair) → pair_at pairs' m ≡ Some p → (m ≢ n) × (pair_at pairs m ≡ Some p))
     → AreCopies before copies pairs → AreCopies after copies' pairs'
 copies_removed before after copies copies' pairs pairs' n removes goes others a = record {
   there = λ m d e.

@@ -15,7 +15,7 @@ use Rattle.cdcl_trail.specs.Trail.{Trail, literals_of, entries_up_to}
 use Rattle.cdcl_trail.specs.Watch.{slot_of, list_at, times, due, pair_at, AreWatched}
 use Rattle.cdcl_trail.specs.Watching.{IsTrueAt}
 use Rattle.cdcl_trail.specs.declared.watch.Head.{Head}
-use Rattle.cdcl_trail.specs.declared.watch.Pair.{Pair}
+use Rattle.cdcl_trail.specs.declared.watch.WatchedPair.{WatchedPair}
 use Rattle.cdcl_trail.specs.declared.watch.Watch.{Watch}
 use Rattle.cdcl_trail.proofs.CopyLaws.{copies_removed}
 use Rattle.cdcl_trail.proofs.LooseLaws.{front_removed}
@@ -62,7 +62,7 @@ attached_detached t w w' n before after removes goes a here other size others go
     earlier : (m : ℕ) (c : List (Signed ℕ)) → clause_number after m ≡ Some c → clause_number before m ≡ Some c
     earlier m c at = sym (removes.others m (λ e. none-some c (sym removes.removed ∙ ap (clause_number after) (sym e) ∙ at))) ∙ at
 
-    watching_one : (m : ℕ) (p : Pair) → pair_at w'.pairs m ≡ Some p → m ≢ n
+    watching_one : (m : ℕ) (p : WatchedPair) → pair_at w'.pairs m ≡ Some p → m ≢ n
     watching_one m p at e = none-some p (sym here ∙ ap (pair_at w'.pairs) (sym e) ∙ at)
 
 -- one list is walked
@@ -93,7 +93,7 @@ unwatch_kept n j place old mid w u at other =
     }
 
 -- both lists of a pair
-pub unwatched_both : (n : ℕ) (p : Pair) (old mid new : List (List Watch)) → slot_of p.first ≢ slot_of p.second → IsUnwatched n (slot_of p.first) old mid → IsUnwatched n (slot_of p.second) mid new → IsUnwatchedBoth n p old new
+pub unwatched_both : (n : ℕ) (p : WatchedPair) (old mid new : List (List Watch)) → slot_of p.first ≢ slot_of p.second → IsUnwatched n (slot_of p.first) old mid → IsUnwatched n (slot_of p.second) mid new → IsUnwatchedBoth n p old new
 unwatched_both n p old mid new apart a b = record {
   first = ap (times n) (b.apart (slot_of p.first) apart) ∙ a.gone;
   second = b.gone;
@@ -114,7 +114,7 @@ unwatched_both n p old mid new apart a b = record {
       | inr f ↦ subst (λ l. Contains l x) (u.apart k f) c
     ]
 
-pub unwatched_all : (clauses : List (Option (List (Signed ℕ)))) (n : ℕ) (p : Pair) (old new : List (List Watch)) (pairs : List (Option Pair)) → AreWatched clauses old pairs → pair_at pairs n ≡ Some p → IsUnwatchedBoth n p old new → IsUnwatchedAll n old new
+pub unwatched_all : (clauses : List (Option (List (Signed ℕ)))) (n : ℕ) (p : WatchedPair) (old new : List (List Watch)) (pairs : List (Option WatchedPair)) → AreWatched clauses old pairs → pair_at pairs n ≡ Some p → IsUnwatchedBoth n p old new → IsUnwatchedAll n old new
 unwatched_all clauses n p old new pairs h at u = record {
   gone = λ k. elim (cases_eq k (slot_of p.first)) [
     | inl e ↦ ap (λ i. times n (list_at new i)) e ∙ u.first
@@ -127,11 +127,11 @@ unwatched_all clauses n p old new pairs h at u = record {
   old_ones = u.old_ones;
 }
 
-pub unwatched_none : (clauses : List (Option (List (Signed ℕ)))) (n : ℕ) (lists : List (List Watch)) (pairs : List (Option Pair)) → AreWatched clauses lists pairs → pair_at pairs n ≡ None → IsUnwatchedAll n lists lists
+pub unwatched_none : (clauses : List (Option (List (Signed ℕ)))) (n : ℕ) (lists : List (List Watch)) (pairs : List (Option WatchedPair)) → AreWatched clauses lists pairs → pair_at pairs n ≡ None → IsUnwatchedAll n lists lists
 unwatched_none clauses n lists pairs h none = record { gone = λ k. h.counted k n ∙ ap (λ o. due o k) none; others = λ k m e. refl; old_ones = λ k x c. c }
 
 -- the literals of a pair have lists
-pub pair_slots : (clauses : List (Option (List (Signed ℕ)))) (n atoms : ℕ) (p : Pair) (lists : List (List Watch)) (pairs : List (Option Pair)) → AreWatched clauses lists pairs → pair_at pairs n ≡ Some p → length lists ≡ atoms + atoms
+pub pair_slots : (clauses : List (Option (List (Signed ℕ)))) (n atoms : ℕ) (p : WatchedPair) (lists : List (List Watch)) (pairs : List (Option WatchedPair)) → AreWatched clauses lists pairs → pair_at pairs n ≡ Some p → length lists ≡ atoms + atoms
     → (p.first.atom < atoms) × (p.second.atom < atoms)
 pair_slots clauses n atoms p lists pairs h at size = (
   of_slot p.first (inside (slot_of p.first) (due_first p.first p.second (slot_of p.first) refl)),

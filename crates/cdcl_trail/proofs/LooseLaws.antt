@@ -19,7 +19,7 @@ use Rattle.cdcl_trail.specs.Watch.{slot_of, list_at, times, pair_at, due, IsPair
 use Rattle.cdcl_trail.specs.Watching.{IsTrueAt, Watches}
 use Rattle.cdcl_trail.specs.declared.entry.Entry.{Entry}
 use Rattle.cdcl_trail.specs.declared.values.Values.{Values}
-use Rattle.cdcl_trail.specs.declared.watch.Pair.{Pair}
+use Rattle.cdcl_trail.specs.declared.watch.WatchedPair.{WatchedPair}
 use Rattle.cdcl_trail.specs.declared.watch.Watch.{Watch}
 use Rattle.cdcl_trail.proofs.ListRunLaws.{still_true}
 use Rattle.cdcl_trail.proofs.PropagationLaws.{nothing_added, one_added}
@@ -48,14 +48,14 @@ added_in lists l w x k h c = elim (cases_eq k (slot_of l)) [
 ]
 
 -- a clause of two literals, seen from the list of one of them
-only_first : (p : Pair) (k : ℕ) (c : List (Signed ℕ)) → k ≡ slot_of p.first → All (λ m. (m ≡ p.first) ⊎ (m ≡ p.second)) c → All (λ m. (slot_of m ≡ k) ⊎ (m ≡ p.second)) c
+only_first : (p : WatchedPair) (k : ℕ) (c : List (Signed ℕ)) → k ≡ slot_of p.first → All (λ m. (m ≡ p.first) ⊎ (m ≡ p.second)) c → All (λ m. (slot_of m ≡ k) ⊎ (m ≡ p.second)) c
 only_first p k c e all = All-weaker (λ m. (m ≡ p.first) ⊎ (m ≡ p.second)) (λ m. (slot_of m ≡ k) ⊎ (m ≡ p.second)) (λ m h. either m h) c all
   where
     either : (m : Signed ℕ) → (m ≡ p.first) ⊎ (m ≡ p.second) → (slot_of m ≡ k) ⊎ (m ≡ p.second)
     either m (inl f) = inl (ap slot_of f ∙ sym e)
     either m (inr f) = inr f
 
-only_second : (p : Pair) (k : ℕ) (c : List (Signed ℕ)) → k ≡ slot_of p.second → All (λ m. (m ≡ p.first) ⊎ (m ≡ p.second)) c → All (λ m. (slot_of m ≡ k) ⊎ (m ≡ p.first)) c
+only_second : (p : WatchedPair) (k : ℕ) (c : List (Signed ℕ)) → k ≡ slot_of p.second → All (λ m. (m ≡ p.first) ⊎ (m ≡ p.second)) c → All (λ m. (slot_of m ≡ k) ⊎ (m ≡ p.first)) c
 only_second p k c e all = All-weaker (λ m. (m ≡ p.first) ⊎ (m ≡ p.second)) (λ m. (slot_of m ≡ k) ⊎ (m ≡ p.first)) (λ m h. either m h) c all
   where
     either : (m : Signed ℕ) → (m ≡ p.first) ⊎ (m ≡ p.second) → (slot_of m ≡ k) ⊎ (m ≡ p.first)
@@ -75,7 +75,7 @@ two_of (x ∷ y ∷ []) a b size i (suc (suc j), k, t) apart = absurd (omega (ar
 two_of (x ∷ y ∷ z ∷ zs) a b size i j apart = absurd (omega (arith, size))
 
 -- a clause that watched nothing begins to watch a pair
-pub paired_watched : (clauses : List (Option (List (Signed ℕ)))) (lists : List (List Watch)) (pairs : List (Option Pair)) (n : ℕ) (p : Pair) (bit : Bool) (c : List (Signed ℕ)) → AreWatched clauses lists pairs → pair_at pairs n ≡ None → clause_number clauses n ≡ Some c
+pub paired_watched : (clauses : List (Option (List (Signed ℕ)))) (lists : List (List Watch)) (pairs : List (Option WatchedPair)) (n : ℕ) (p : WatchedPair) (bit : Bool) (c : List (Signed ℕ)) → AreWatched clauses lists pairs → pair_at pairs n ≡ None → clause_number clauses n ≡ Some c
     → Contains c p.first → Contains c p.second → (bit ≡ true → All (λ m. (m ≡ p.first) ⊎ (m ≡ p.second)) c) → slot_of p.first ≢ slot_of p.second → slot_of p.first < length lists → slot_of p.second < length lists → n < length pairs
     → AreWatched clauses (with_pair lists n p bit) (set pairs n (Some p))
 paired_watched clauses lists pairs n p bit c h none at a b two apart in_a in_b room = record {
@@ -148,7 +148,7 @@ paired_watched clauses lists pairs n p bit c h none at a b two apart in_a in_b r
       ]
     ]
 
-    of_clause : (m : ℕ) (q : Pair) → pair_at (set pairs n (Some p)) m ≡ Some q → IsPairOf clauses m q
+    of_clause : (m : ℕ) (q : WatchedPair) → pair_at (set pairs n (Some p)) m ≡ Some q → IsPairOf clauses m q
     of_clause m q e = elim (cases_eq m n) [
       | inl same ↦
           let is : q ≡ p = same_Some q p (sym e ∙ ap (pair_at (set pairs n (Some p))) same ∙ pair_at_set pairs n (Some p) room) in
@@ -157,7 +157,7 @@ paired_watched clauses lists pairs n p bit c h none at a b two apart in_a in_b r
     ]
 
 -- both literals of the pair are not false
-pub paired_runs : (clauses : List (Option (List (Signed ℕ)))) (level : ℕ) (v : Values) (pairs : List (Option Pair)) (n : ℕ) (p : Pair) → n < length pairs → (IsFalseIn (entries_of v) p.first → ⊥) → (IsFalseIn (entries_of v) p.second → ⊥)
+pub paired_runs : (clauses : List (Option (List (Signed ℕ)))) (level : ℕ) (v : Values) (pairs : List (Option WatchedPair)) (n : ℕ) (p : WatchedPair) → n < length pairs → (IsFalseIn (entries_of v) p.first → ⊥) → (IsFalseIn (entries_of v) p.second → ⊥)
     → Runs clauses level v pairs v (set pairs n (Some p))
 paired_runs clauses level v pairs n p room a b = record {
   added = nothing_added clauses (at_level level v);
@@ -182,7 +182,7 @@ paired_runs clauses level v pairs n p room a b = record {
     ]
 
 -- a unit gives its literal
-pub unit_running : (clauses : List (Option (List (Signed ℕ)))) (level : ℕ) (v v' : Values) (lists : List (List Watch)) (pairs : List (Option Pair)) (n : ℕ) (o : Signed ℕ) → IsRunning clauses level v lists pairs → o.atom < length v.entries.items → IsUnset (entries_of v) o.atom
+pub unit_running : (clauses : List (Option (List (Signed ℕ)))) (level : ℕ) (v v' : Values) (lists : List (List Watch)) (pairs : List (Option WatchedPair)) (n : ℕ) (o : Signed ℕ) → IsRunning clauses level v lists pairs → o.atom < length v.entries.items → IsUnset (entries_of v) o.atom
     → AreValues v' → entries_of v' ≡ entries_of v ++ (record { lit = o; level = level; reason = Some n }) ∷ [] → length v'.entries.items ≡ length v.entries.items → IsRunning clauses level v' lists pairs
 unit_running clauses level v v' lists pairs n o r low unset values entries size = record {
   values = values;
@@ -192,7 +192,7 @@ unit_running clauses level v v' lists pairs n o r low unset values entries size 
   below = subst (λ m. ClausesBelow m clauses) (sym size) r.below;
 }
 
-pub unit_runs : (clauses : List (Option (List (Signed ℕ)))) (level : ℕ) (v v' : Values) (pairs : List (Option Pair)) (n : ℕ) (o : Signed ℕ) (c : List (Signed ℕ)) → clause_number clauses n ≡ Some c → Contains c o → All (λ m. IsFalseIn (entries_of v) m ⊎ (m ≡ o)) c
+pub unit_runs : (clauses : List (Option (List (Signed ℕ)))) (level : ℕ) (v v' : Values) (pairs : List (Option WatchedPair)) (n : ℕ) (o : Signed ℕ) (c : List (Signed ℕ)) → clause_number clauses n ≡ Some c → Contains c o → All (λ m. IsFalseIn (entries_of v) m ⊎ (m ≡ o)) c
     → entries_of v' ≡ entries_of v ++ (record { lit = o; level = level; reason = Some n }) ∷ [] → length v'.entries.items ≡ length v.entries.items → Runs clauses level v pairs v' pairs
 unit_runs clauses level v v' pairs n o c at has all entries size =
     let t = at_level level v in
@@ -208,10 +208,10 @@ pub last_true : (es more : List Entry) (o : Signed ℕ) (level n : ℕ) → more
 last_true es more o level n e =
     subst (λ xs. Contains (literals_of xs) o) (sym e) (subst (λ xs. Contains xs o) (sym (map-append (λ (x : Entry). x.lit) es ((record { lit = o; level = level; reason = Some n }) ∷ []))) (Contains-push (literals_of es) o))
 
-pub none_at : (read pair : Option Pair) → read ≡ pair → is_some read ≡ false → pair ≡ None
+pub none_at : (read pair : Option WatchedPair) → read ≡ pair → is_some read ≡ false → pair ≡ None
 none_at read pair same f = sym same ∙ is_none read f
   where
-    is_none : (o : Option Pair) → is_some o ≡ false → o ≡ None
+    is_none : (o : Option WatchedPair) → is_some o ≡ false → o ≡ None
     is_none None e = refl
     is_none (Some x) e = absurd cc
 
@@ -242,15 +242,15 @@ contains_kept xs i d x at c other =
       ]
     ]
 
-pub loose_begins : (clauses : List (Option (List (Signed ℕ)))) (level : ℕ) (v : Values) (lists : List (List Watch)) (pairs : List (Option Pair)) (loose : List ℕ) (passed : ℕ) → IsRunning clauses level v lists pairs → AreLoose clauses (entries_of v) pairs loose passed
+pub loose_begins : (clauses : List (Option (List (Signed ℕ)))) (level : ℕ) (v : Values) (lists : List (List Watch)) (pairs : List (Option WatchedPair)) (loose : List ℕ) (passed : ℕ) → IsRunning clauses level v lists pairs → AreLoose clauses (entries_of v) pairs loose passed
     → IsLooseRun clauses level v pairs loose passed v lists pairs loose passed
 loose_begins clauses level v lists pairs loose passed r a = record { running = r; runs = runs_none clauses level v pairs; are_loose = a; front = refl; on = omega arith; short = omega arith }
 
-seen_still : (clauses : List (Option (List (Signed ℕ)))) (level : ℕ) (v v' : Values) (pairs pairs' : List (Option Pair)) (ns : List ℕ) → Runs clauses level v pairs v' pairs' → All (IsTrueAt clauses (entries_of v)) ns → All (IsTrueAt clauses (entries_of v')) ns
+seen_still : (clauses : List (Option (List (Signed ℕ)))) (level : ℕ) (v v' : Values) (pairs pairs' : List (Option WatchedPair)) (ns : List ℕ) → Runs clauses level v pairs v' pairs' → All (IsTrueAt clauses (entries_of v)) ns → All (IsTrueAt clauses (entries_of v')) ns
 seen_still clauses level v v' pairs pairs' ns step seen = All-weaker (IsTrueAt clauses (entries_of v)) (IsTrueAt clauses (entries_of v')) (λ n t. still_true clauses (entries_of v) (entries_of v') n step.added.kept t) ns seen
 
 -- the loose clauses stay while pairs and values change
-pub loose_on : (clauses : List (Option (List (Signed ℕ)))) (level : ℕ) (v v' : Values) (pairs pairs' : List (Option Pair)) (loose : List ℕ) (passed : ℕ) → Runs clauses level v pairs v' pairs' → AreLoose clauses (entries_of v) pairs loose passed → AreLoose clauses (entries_of v') pairs' loose passed
+pub loose_on : (clauses : List (Option (List (Signed ℕ)))) (level : ℕ) (v v' : Values) (pairs pairs' : List (Option WatchedPair)) (loose : List ℕ) (passed : ℕ) → Runs clauses level v pairs v' pairs' → AreLoose clauses (entries_of v) pairs loose passed → AreLoose clauses (entries_of v') pairs' loose passed
 loose_on clauses level v v' pairs pairs' loose passed step a = record {
   room = λ n c at. subst (λ m. n < m) (sym step.room) (a.room n c at);
   all = λ n c at none. a.all n c at (step.loose n none);
@@ -259,7 +259,7 @@ loose_on clauses level v v' pairs pairs' loose passed step a = record {
   low = a.low;
 }
 
-pub loose_passed : (clauses : List (Option (List (Signed ℕ)))) (level : ℕ) (v v' v'' : Values) (lists'' : List (List Watch)) (lists' : List (List Watch)) (pairs pairs' pairs'' : List (Option Pair)) (loose loose' : List ℕ) (passed passed' n : ℕ)
+pub loose_passed : (clauses : List (Option (List (Signed ℕ)))) (level : ℕ) (v v' v'' : Values) (lists'' : List (List Watch)) (lists' : List (List Watch)) (pairs pairs' pairs'' : List (Option WatchedPair)) (loose loose' : List ℕ) (passed passed' n : ℕ)
     → IsLooseRun clauses level v pairs loose passed v' lists' pairs' loose' passed' → slice_get loose' passed' ≡ Some n → IsRunning clauses level v'' lists'' pairs'' → Runs clauses level v' pairs' v'' pairs'' → IsTrueAt clauses (entries_of v'') n
     → IsLooseRun clauses level v pairs loose passed v'' lists'' pairs'' loose' (passed' + 1)
 loose_passed clauses level v v' v'' lists'' lists' pairs pairs' pairs'' loose loose' passed passed' n run at next step true_now =
@@ -275,7 +275,7 @@ loose_passed clauses level v v' v'' lists'' lists' pairs pairs' pairs'' loose lo
       short = run.short;
     }
 
-pub loose_taken : (clauses : List (Option (List (Signed ℕ)))) (level : ℕ) (v v' v'' : Values) (lists'' : List (List Watch)) (lists' : List (List Watch)) (pairs pairs' pairs'' : List (Option Pair)) (loose loose' : List ℕ) (passed passed' n : ℕ)
+pub loose_taken : (clauses : List (Option (List (Signed ℕ)))) (level : ℕ) (v v' v'' : Values) (lists'' : List (List Watch)) (lists' : List (List Watch)) (pairs pairs' pairs'' : List (Option WatchedPair)) (loose loose' : List ℕ) (passed passed' n : ℕ)
     → IsLooseRun clauses level v pairs loose passed v' lists' pairs' loose' passed' → slice_get loose' passed' ≡ Some n → IsRunning clauses level v'' lists'' pairs'' → Runs clauses level v' pairs' v'' pairs''
     → ((c : List (Signed ℕ)) → clause_number clauses n ≡ Some c → pair_at pairs'' n ≢ None) → IsLooseRun clauses level v pairs loose passed v'' lists'' pairs'' (swap_remove loose' passed' n) passed'
 loose_taken clauses level v v' v'' lists'' lists' pairs pairs' pairs'' loose loose' passed passed' n run at next step taken =

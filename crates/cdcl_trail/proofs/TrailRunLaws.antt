@@ -18,7 +18,7 @@ use Rattle.cdcl_trail.specs.Watch.{slot_of, list_at, times, pair_at, due, AreWat
 use Rattle.cdcl_trail.specs.Watching.{IsTrueAt, Watches, IsSettled}
 use Rattle.cdcl_trail.specs.declared.entry.Entry.{Entry}
 use Rattle.cdcl_trail.specs.declared.values.Values.{Values}
-use Rattle.cdcl_trail.specs.declared.watch.Pair.{Pair}
+use Rattle.cdcl_trail.specs.declared.watch.WatchedPair.{WatchedPair}
 use Rattle.cdcl_trail.specs.declared.watch.Watch.{Watch}
 use Rattle.cdcl_trail.proofs.ListRunLaws.{still_true}
 use Rattle.cdcl_trail.proofs.PropagationLaws.{longer}
@@ -40,7 +40,7 @@ counted_in n (x ∷ xs) h = by_test (x.number == n) refl (counted_in n xs)
         contains_there x.number n (map (λ w. w.number) xs) (rest (omega (arith, h, more, none)))
 
 -- a clause that watches a literal stands in its list
-pub watcher_in : (clauses : List (Option (List (Signed ℕ)))) (lists : List (List Watch)) (pairs : List (Option Pair)) (n : ℕ) (p : Pair) (g : Signed ℕ) → AreWatched clauses lists pairs → pair_at pairs n ≡ Some p → Watches p g → Contains (numbers_at lists (slot_of g)) n
+pub watcher_in : (clauses : List (Option (List (Signed ℕ)))) (lists : List (List Watch)) (pairs : List (Option WatchedPair)) (n : ℕ) (p : WatchedPair) (g : Signed ℕ) → AreWatched clauses lists pairs → pair_at pairs n ≡ Some p → Watches p g → Contains (numbers_at lists (slot_of g)) n
 watcher_in clauses lists pairs n p g h at watches =
     let one : times n (list_at lists (slot_of g)) ≡ 1 = h.counted (slot_of g) n ∙ ap (λ o. due o (slot_of g)) at ∙ by_side watches in
     counted_in n (list_at lists (slot_of g)) (omega (arith, one))
@@ -50,14 +50,14 @@ watcher_in clauses lists pairs n p g h at watches =
     by_side (inr e) = due_second p.first p.second (slot_of g) (ap slot_of e)
 
 -- more entries
-pub settled_more : (clauses : List (Option (List (Signed ℕ)))) (pairs : List (Option Pair)) (es more : List Entry) (h : ℕ) → take (length es) more ≡ es → h ≤ length es → IsSettled clauses pairs es h → IsSettled clauses pairs more h
+pub settled_more : (clauses : List (Option (List (Signed ℕ)))) (pairs : List (Option WatchedPair)) (es more : List Entry) (h : ℕ) → take (length es) more ≡ es → h ≤ length es → IsSettled clauses pairs es h → IsSettled clauses pairs more h
 settled_more clauses pairs es more h kept low settled n p g at watches falsified =
     let front : take h (literals_of more) ≡ take h (literals_of es) =
     take-map (λ (x : Entry). x.lit) h more ∙ ap (map (λ (x : Entry). x.lit)) (sym (take_of_take more (length es) h low) ∙ ap (take h) kept) ∙ sym (take-map (λ (x : Entry). x.lit) h es) in
     still_true clauses es more n kept (settled n p g at watches (subst (λ xs. Contains xs (complement g)) front falsified))
 
 -- the next literal, after the visits of its list
-pub settled_next : (clauses : List (Option (List (Signed ℕ)))) (lists : List (List Watch)) (pairs : List (Option Pair)) (es : List Entry) (h : ℕ) (l x : Signed ℕ) → AreWatched clauses lists pairs → slice_get (literals_of es) h ≡ Some x → l ≡ complement x → IsSettled clauses pairs es h
+pub settled_next : (clauses : List (Option (List (Signed ℕ)))) (lists : List (List Watch)) (pairs : List (Option WatchedPair)) (es : List Entry) (h : ℕ) (l x : Signed ℕ) → AreWatched clauses lists pairs → slice_get (literals_of es) h ≡ Some x → l ≡ complement x → IsSettled clauses pairs es h
     → ((n : ℕ) → Contains (numbers_at lists (slot_of l)) n → IsTrueAt clauses es n) → IsSettled clauses pairs es (h + 1)
 settled_next clauses lists pairs es h l x watched here is settled seen n p g at watches falsified =
     let inside = slice_get_within (literals_of es) h x here in
@@ -70,7 +70,7 @@ settled_next clauses lists pairs es h l x watched here is settled seen n p g at 
           seen n (watcher_in clauses lists pairs n p l watched at (subst (Watches p) same watches))
     ]
 
-pub trail_run_goes : (clauses : List (Option (List (Signed ℕ)))) (level : ℕ) (head : ℕ) (v v' v'' : Values) (lists' lists'' : List (List Watch)) (pairs pairs' pairs'' : List (Option Pair)) → IsTrailRun clauses level head v pairs v' lists' pairs'
+pub trail_run_goes : (clauses : List (Option (List (Signed ℕ)))) (level : ℕ) (head : ℕ) (v v' v'' : Values) (lists' lists'' : List (List Watch)) (pairs pairs' pairs'' : List (Option WatchedPair)) → IsTrailRun clauses level head v pairs v' lists' pairs'
     → IsRunning clauses level v'' lists'' pairs'' → Runs clauses level v' pairs' v'' pairs'' → IsTrailRun clauses level head v pairs v'' lists'' pairs''
 trail_run_goes clauses level head v v' v'' lists' lists'' pairs pairs' pairs'' run next step = record {
   running = next;
@@ -79,7 +79,7 @@ trail_run_goes clauses level head v v' v'' lists' lists'' pairs pairs' pairs'' r
   settled = settled_more clauses pairs'' (entries_of v') (entries_of v'') head step.added.kept run.low (step.kept (entries_of v') head (λ l c. c) run.settled);
 }
 
-pub trail_run_next : (clauses : List (Option (List (Signed ℕ)))) (level : ℕ) (head : ℕ) (v v' v'' : Values) (lists' lists'' : List (List Watch)) (pairs pairs' pairs'' : List (Option Pair)) (l x : Signed ℕ) → IsTrailRun clauses level head v pairs v' lists' pairs'
+pub trail_run_next : (clauses : List (Option (List (Signed ℕ)))) (level : ℕ) (head : ℕ) (v v' v'' : Values) (lists' lists'' : List (List Watch)) (pairs pairs' pairs'' : List (Option WatchedPair)) (l x : Signed ℕ) → IsTrailRun clauses level head v pairs v' lists' pairs'
     → IsRunning clauses level v'' lists'' pairs'' → Runs clauses level v' pairs' v'' pairs'' → slice_get (literals_of (entries_of v')) head ≡ Some x → l ≡ complement x
     → ((n : ℕ) → Contains (numbers_at lists'' (slot_of l)) n → IsTrueAt clauses (entries_of v'') n) → IsTrailRun clauses level (head + 1) v pairs v'' lists'' pairs''
 trail_run_next clauses level head v v' v'' lists' lists'' pairs pairs' pairs'' l x run next step here is seen =
@@ -101,7 +101,7 @@ trail_run_next clauses level head v v' v'' lists' lists'' pairs pairs' pairs'' l
 pub literal_here : (v : Values) (h : ℕ) (x : Signed ℕ) → AreValues v → slice_get v.literals.items h ≡ Some x → slice_get (literals_of (entries_of v)) h ≡ Some x
 literal_here v h x values at = subst (λ xs. slice_get xs h ≡ Some x) (sym values.literals) at
 
-pub slot_here : (clauses : List (Option (List (Signed ℕ)))) (level : ℕ) (v : Values) (lists : List (List Watch)) (pairs : List (Option Pair)) (h : ℕ) (x l : Signed ℕ) → IsRunning clauses level v lists pairs → slice_get v.literals.items h ≡ Some x → l ≡ complement x → slot_of l < length lists
+pub slot_here : (clauses : List (Option (List (Signed ℕ)))) (level : ℕ) (v : Values) (lists : List (List Watch)) (pairs : List (Option WatchedPair)) (h : ℕ) (x l : Signed ℕ) → IsRunning clauses level v lists pairs → slice_get v.literals.items h ≡ Some x → l ≡ complement x → slot_of l < length lists
 slot_here clauses level v lists pairs h x l r at is =
     let atoms = length v.entries.items in
     let all : All (λ y. y.atom < atoms) (literals_of (entries_of v)) = All-map (λ (y : Signed ℕ). y.atom < atoms) (λ (e : Entry). e.lit) (entries_of v) r.trail.atoms_below in

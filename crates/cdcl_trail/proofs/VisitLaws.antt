@@ -20,7 +20,7 @@ use Rattle.cdcl_trail.specs.Watch.{slot_of, list_at, times, pair_at, is_slot, du
 use Rattle.cdcl_trail.specs.Watching.{IsTrueAt, Watches}
 use Rattle.cdcl_trail.specs.declared.entry.Entry.{Entry}
 use Rattle.cdcl_trail.specs.declared.values.Values.{Values}
-use Rattle.cdcl_trail.specs.declared.watch.Pair.{Pair}
+use Rattle.cdcl_trail.specs.declared.watch.WatchedPair.{WatchedPair}
 use Rattle.cdcl_trail.specs.declared.watch.Watch.{Watch}
 use Rattle.cdcl_trail.proofs.PropagationLaws.{nothing_added, one_added, more_added}
 use Rattle.cdcl_trail.proofs.ScanLaws.{same_lit, none_value, true_value, false_value}
@@ -63,7 +63,7 @@ slot_below l n h = by_sign l.positive refl
 pub in_list : (xs : List Watch) (i : ℕ) (w : Watch) → slice_get xs i ≡ Some w → 0 < times w.number xs
 in_list xs i w at = omega (arith, times_removed w.number xs i w at, one_here w.number w.number refl)
 
-pub due_some : (o : Option Pair) (k : ℕ) → 0 < due o k → (p : Pair) × (o ≡ Some p) × (is_slot p k ≡ true)
+pub due_some : (o : Option WatchedPair) (k : ℕ) → 0 < due o k → (p : WatchedPair) × (o ≡ Some p) × (is_slot p k ≡ true)
 due_some None k h = absurd (omega (arith, h))
 due_some (Some p) k h = (p, refl, by_test (is_slot p k) refl)
   where
@@ -74,13 +74,13 @@ due_some (Some p) k h = (p, refl, by_test (is_slot p k) refl)
         absurd (omega (arith, z, h))
 
 -- a clause that stands in a list watches its literal
-pub watch_pair : (clauses : List (Option (List (Signed ℕ)))) (lists : List (List Watch)) (pairs : List (Option Pair)) (l : Signed ℕ) (i : ℕ) (w : Watch) → AreWatched clauses lists pairs → slice_get (list_at lists (slot_of l)) i ≡ Some w
-    → (p : Pair) × (pair_at pairs w.number ≡ Some p) × Watches p l
+pub watch_pair : (clauses : List (Option (List (Signed ℕ)))) (lists : List (List Watch)) (pairs : List (Option WatchedPair)) (l : Signed ℕ) (i : ℕ) (w : Watch) → AreWatched clauses lists pairs → slice_get (list_at lists (slot_of l)) i ≡ Some w
+    → (p : WatchedPair) × (pair_at pairs w.number ≡ Some p) × Watches p l
 watch_pair clauses lists pairs l i w h at =
     let some = due_some (pair_at pairs w.number) (slot_of l) (subst (λ n. 0 < n) (h.counted (slot_of l) w.number) (in_list (list_at lists (slot_of l)) i w at)) in
     (some.0, some.1, of_slot some.0 (slot_of some.0.first == slot_of l) refl some.2)
   where
-    of_slot : (p : Pair) (b : Bool) → (slot_of p.first == slot_of l) ≡ b → is_slot p (slot_of l) ≡ true → Watches p l
+    of_slot : (p : WatchedPair) (b : Bool) → (slot_of p.first == slot_of l) ≡ b → is_slot p (slot_of l) ≡ true → Watches p l
     of_slot p true e t = inl (slot_injective p.first l (eqb-true (slot_of p.first) (slot_of l) e))
     of_slot p false e t =
         let second : (slot_of p.second == slot_of l) ≡ true = rw e at t in
@@ -95,7 +95,7 @@ neither es l a b = by_value (value_of es l) refl
     by_value (Some true) e = absurd (a (true_value es l e))
     by_value (Some false) e = absurd (b (false_value es l e))
 
-pub runs_on : (clauses : List (Option (List (Signed ℕ)))) (level : ℕ) (v v' v'' : Values) (p p' p'' : List (Option Pair)) → Runs clauses level v p v' p' → Runs clauses level v' p' v'' p'' → Runs clauses level v p v'' p''
+pub runs_on : (clauses : List (Option (List (Signed ℕ)))) (level : ℕ) (v v' v'' : Values) (p p' p'' : List (Option WatchedPair)) → Runs clauses level v p v' p' → Runs clauses level v' p' v'' p'' → Runs clauses level v p v'' p''
 runs_on clauses level v v' v'' p p' p'' a b = record {
   added = more_added clauses (at_level level v) (at_level level v') (at_level level v'') a.added b.added;
   kept = λ part h within settled. b.kept part h (λ l c. more (entries_of v) (entries_of v') l a.added.kept (within l c)) (a.kept part h within settled);
@@ -107,7 +107,7 @@ runs_on clauses level v v' v'' p p' p'' a b = record {
     more es more_es l e c =
         Contains-take (literals_of more_es) (length es) l (subst (λ xs. Contains xs l) (sym (take-map (λ (x : Entry). x.lit) (length es) more_es ∙ ap literals_of e)) c)
 
-pub runs_none : (clauses : List (Option (List (Signed ℕ)))) (level : ℕ) (v : Values) (p : List (Option Pair)) → Runs clauses level v p v p
+pub runs_none : (clauses : List (Option (List (Signed ℕ)))) (level : ℕ) (v : Values) (p : List (Option WatchedPair)) → Runs clauses level v p v p
 runs_none clauses level v p = record {
   added = nothing_added clauses (at_level level v);
   kept = λ part h within settled. settled;
@@ -116,7 +116,7 @@ runs_none clauses level v p = record {
 }
 
 -- the clause watches a literal that is not false in place of one that is
-pub moved_settled : (clauses : List (Option (List (Signed ℕ)))) (entries : List Entry) (pairs : List (Option Pair)) (l o next : Signed ℕ) (n : ℕ) (p : Pair)
+pub moved_settled : (clauses : List (Option (List (Signed ℕ)))) (entries : List Entry) (pairs : List (Option WatchedPair)) (l o next : Signed ℕ) (n : ℕ) (p : WatchedPair)
     → pair_at pairs n ≡ Some p → HasBoth p l o → (IsFalseIn entries next → ⊥) → KeepsSettled clauses entries pairs (set pairs n (Some (pair_of o next)))
 moved_settled clauses entries pairs l o next n p at both unlike part h within settled m q g here watches falsified =
     elim (cases_eq m n) [
@@ -149,7 +149,7 @@ numbers_removed xs i w at =
     (take-map f i (swap_remove xs i w) ∙ ap (map f) front ∙ sym (take-map f i xs), omega (arith, short, length-map (swap_remove xs i w) f, length-map xs f))
 
 -- the clause of a pair has both literals
-pub of_pair : (clauses : List (Option (List (Signed ℕ)))) (lists : List (List Watch)) (pairs : List (Option Pair)) (n : ℕ) (p : Pair) (l o : Signed ℕ) (c : List (Signed ℕ)) → AreWatched clauses lists pairs → pair_at pairs n ≡ Some p → HasBoth p l o
+pub of_pair : (clauses : List (Option (List (Signed ℕ)))) (lists : List (List Watch)) (pairs : List (Option WatchedPair)) (n : ℕ) (p : WatchedPair) (l o : Signed ℕ) (c : List (Signed ℕ)) → AreWatched clauses lists pairs → pair_at pairs n ≡ Some p → HasBoth p l o
     → clause_number clauses n ≡ Some c → Contains c l × Contains c o × (slot_of l ≢ slot_of o)
 of_pair clauses lists pairs n p l o c h at both here =
     let x = h.of_clauses n p at in
@@ -165,17 +165,17 @@ pub atom_below : (clauses : List (Option (List (Signed ℕ)))) (n atoms : ℕ) (
 atom_below clauses n atoms c l below at has = All-contains (λ x. x.atom < atoms) c l (below n c at) has
 
 -- packed literals fit
-pub lists_small : (clauses : List (Option (List (Signed ℕ)))) (level : ℕ) (v : Values) (lists : List (List Watch)) (pairs : List (Option Pair)) → IsRunning clauses level v lists pairs → length lists < 2 ^ 32
+pub lists_small : (clauses : List (Option (List (Signed ℕ)))) (level : ℕ) (v : Values) (lists : List (List Watch)) (pairs : List (Option WatchedPair)) → IsRunning clauses level v lists pairs → length lists < 2 ^ 32
 lists_small clauses level v lists pairs r = let small = r.values.small in omega (arith, r.slots, small)
 
 -- the atom of the other literal of a pair
-pub other_below : (clauses : List (Option (List (Signed ℕ)))) (level : ℕ) (v : Values) (lists : List (List Watch)) (pairs : List (Option Pair)) (n : ℕ) (p : Pair) (l o : Signed ℕ) → IsRunning clauses level v lists pairs → pair_at pairs n ≡ Some p → HasBoth p l o → o.atom < length v.entries.items
+pub other_below : (clauses : List (Option (List (Signed ℕ)))) (level : ℕ) (v : Values) (lists : List (List Watch)) (pairs : List (Option WatchedPair)) (n : ℕ) (p : WatchedPair) (l o : Signed ℕ) → IsRunning clauses level v lists pairs → pair_at pairs n ≡ Some p → HasBoth p l o → o.atom < length v.entries.items
 other_below clauses level v lists pairs n p l o r at both =
     let x = r.watched.of_clauses n p at in
     let c = x.clause in
     atom_below clauses n (length v.entries.items) c o r.below x.here (of_pair clauses lists pairs n p l o c r.watched at both x.here).1
 
-pub other_slot : (clauses : List (Option (List (Signed ℕ)))) (level : ℕ) (v : Values) (lists : List (List Watch)) (pairs : List (Option Pair)) (n : ℕ) (p : Pair) (l o : Signed ℕ) → IsRunning clauses level v lists pairs → pair_at pairs n ≡ Some p → HasBoth p l o → slot_of o < length lists
+pub other_slot : (clauses : List (Option (List (Signed ℕ)))) (level : ℕ) (v : Values) (lists : List (List Watch)) (pairs : List (Option WatchedPair)) (n : ℕ) (p : WatchedPair) (l o : Signed ℕ) → IsRunning clauses level v lists pairs → pair_at pairs n ≡ Some p → HasBoth p l o → slot_of o < length lists
 other_slot clauses level v lists pairs n p l o r at both =
     subst (λ m. slot_of o < m) (sym r.slots) (slot_below o (length v.entries.items) (other_below clauses level v lists pairs n p l o r at both))
 
@@ -186,7 +186,7 @@ conflict clauses es n o c at all f = (c, at, All-weaker (λ m. IsFalseIn es m �
     either m (inl h) = h
     either m (inr e) = subst (IsFalseIn es) (sym e) f
 
-pub visits_false : (clauses : List (Option (List (Signed ℕ)))) (level : ℕ) (l : Signed ℕ) (place : ℕ) (v : Values) (lists : List (List Watch)) (pairs : List (Option Pair)) (n : ℕ) (o : Signed ℕ) (c : List (Signed ℕ)) → IsRunning clauses level v lists pairs
+pub visits_false : (clauses : List (Option (List (Signed ℕ)))) (level : ℕ) (l : Signed ℕ) (place : ℕ) (v : Values) (lists : List (List Watch)) (pairs : List (Option WatchedPair)) (n : ℕ) (o : Signed ℕ) (c : List (Signed ℕ)) → IsRunning clauses level v lists pairs
     → clause_number clauses n ≡ Some c → All (λ m. IsFalseIn (entries_of v) m ⊎ (m ≡ o)) c → IsFalseIn (entries_of v) o → Visits clauses level l place v lists pairs v lists pairs (FalseClause n)
 visits_false clauses level l place v lists pairs n o c r at all f = record {
   running = r;
@@ -198,7 +198,7 @@ pub number_at : (xs : List Watch) (i : ℕ) (w : Watch) → slice_get xs i ≡ S
 number_at xs i w at = slice_get-map (λ (x : Watch). x.number) xs i ∙ ap (option_map (λ (x : Watch). x.number)) at
 
 -- a clause with a true literal stays where it is
-pub visits_true : (clauses : List (Option (List (Signed ℕ)))) (level : ℕ) (l : Signed ℕ) (place : ℕ) (v : Values) (lists : List (List Watch)) (pairs : List (Option Pair)) (w : Watch) (o : Signed ℕ) → IsRunning clauses level v lists pairs
+pub visits_true : (clauses : List (Option (List (Signed ℕ)))) (level : ℕ) (l : Signed ℕ) (place : ℕ) (v : Values) (lists : List (List Watch)) (pairs : List (Option WatchedPair)) (w : Watch) (o : Signed ℕ) → IsRunning clauses level v lists pairs
     → slice_get (list_at lists (slot_of l)) place ≡ Some w → ((c : List (Signed ℕ)) → clause_number clauses w.number ≡ Some c → Contains c o) → Contains (literals_of (entries_of v)) o
     → Visits clauses level l place v lists pairs v lists pairs Kept
 visits_true clauses level l place v lists pairs w o r at has true_now = record {
@@ -208,7 +208,7 @@ visits_true clauses level l place v lists pairs w o r at has true_now = record {
 }
 
 -- the last open literal of the clause becomes true
-pub visits_implied : (clauses : List (Option (List (Signed ℕ)))) (level : ℕ) (l : Signed ℕ) (place : ℕ) (v v' : Values) (lists : List (List Watch)) (pairs : List (Option Pair)) (w : Watch) (o : Signed ℕ) (c : List (Signed ℕ)) → IsRunning clauses level v lists pairs
+pub visits_implied : (clauses : List (Option (List (Signed ℕ)))) (level : ℕ) (l : Signed ℕ) (place : ℕ) (v v' : Values) (lists : List (List Watch)) (pairs : List (Option WatchedPair)) (w : Watch) (o : Signed ℕ) (c : List (Signed ℕ)) → IsRunning clauses level v lists pairs
     → slice_get (list_at lists (slot_of l)) place ≡ Some w → clause_number clauses w.number ≡ Some c → Contains c o → All (λ m. IsFalseIn (entries_of v) m ⊎ (m ≡ o)) c → o.atom < length v.entries.items → IsUnset (entries_of v) o.atom
     → AreValues v' → entries_of v' ≡ entries_of v ++ (record { lit = o; level = level; reason = Some w.number }) ∷ [] → length v'.entries.items ≡ length v.entries.items
     → Visits clauses level l place v lists pairs v' lists pairs Kept
@@ -242,7 +242,7 @@ visits_implied clauses level l place v v' lists pairs w o c r at here has all lo
     last_true es o = subst (λ xs. Contains xs o) (sym (map-append (λ (x : Entry). x.lit) es ((record { lit = o; level = level; reason = Some w.number }) ∷ []))) (Contains-push (literals_of es) o)
 
 -- another literal is watched in place of this one
-pub visits_moved : (clauses : List (Option (List (Signed ℕ)))) (level : ℕ) (l : Signed ℕ) (place : ℕ) (v : Values) (lists lists' : List (List Watch)) (pairs pairs' : List (Option Pair)) (w : Watch) (p : Pair) (o next : Signed ℕ) → IsRunning clauses level v lists pairs
+pub visits_moved : (clauses : List (Option (List (Signed ℕ)))) (level : ℕ) (l : Signed ℕ) (place : ℕ) (v : Values) (lists lists' : List (List Watch)) (pairs pairs' : List (Option WatchedPair)) (w : Watch) (p : WatchedPair) (o next : Signed ℕ) → IsRunning clauses level v lists pairs
     → slice_get (list_at lists (slot_of l)) place ≡ Some w → pair_at pairs w.number ≡ Some p → HasBoth p l o → (IsFalseIn (entries_of v) next → ⊥)
     → AreWatched clauses lists' pairs' → list_at lists' (slot_of l) ≡ swap_remove (list_at lists (slot_of l)) place w → length lists' ≡ length lists → pairs' ≡ set pairs w.number (Some (pair_of o next))
     → Visits clauses level l place v lists pairs v lists' pairs' Moved
@@ -267,7 +267,7 @@ visits_moved clauses level l place v lists lists' pairs pairs' w p o next r at p
     ]
 
 -- the move that a visit makes
-pub move_of : (clauses : List (Option (List (Signed ℕ)))) (level : ℕ) (l : Signed ℕ) (place : ℕ) (v : Values) (lists : List (List Watch)) (pairs : List (Option Pair)) (w : Watch) (p : Pair) (o next : Signed ℕ) (c : List (Signed ℕ)) → IsRunning clauses level v lists pairs
+pub move_of : (clauses : List (Option (List (Signed ℕ)))) (level : ℕ) (l : Signed ℕ) (place : ℕ) (v : Values) (lists : List (List Watch)) (pairs : List (Option WatchedPair)) (w : Watch) (p : WatchedPair) (o next : Signed ℕ) (c : List (Signed ℕ)) → IsRunning clauses level v lists pairs
     → slice_get (list_at lists (slot_of l)) place ≡ Some w → pair_at pairs w.number ≡ Some p → HasBoth p l o → clause_number clauses w.number ≡ Some c → Contains c next → next ≢ o → IsFalseIn (entries_of v) l → (IsFalseIn (entries_of v) next → ⊥)
     → IsMove clauses lists pairs l o next place w p c
 move_of clauses level l place v lists pairs w p o next c r at pair both here has other f unlike =
@@ -289,7 +289,7 @@ move_of clauses level l place v lists pairs w p o next c r at pair both here has
     }
 
 -- a true literal of the clause becomes its blocker
-pub visits_blocked : (clauses : List (Option (List (Signed ℕ)))) (level : ℕ) (l : Signed ℕ) (place : ℕ) (v : Values) (lists lists' : List (List Watch)) (pairs : List (Option Pair)) (w w' : Watch) (o : Signed ℕ) → IsRunning clauses level v lists pairs
+pub visits_blocked : (clauses : List (Option (List (Signed ℕ)))) (level : ℕ) (l : Signed ℕ) (place : ℕ) (v : Values) (lists lists' : List (List Watch)) (pairs : List (Option WatchedPair)) (w w' : Watch) (o : Signed ℕ) → IsRunning clauses level v lists pairs
     → slot_of l < length lists → slice_get (list_at lists (slot_of l)) place ≡ Some w → w'.number ≡ w.number → w'.blocker ≡ o → w'.binary ≡ false → ((c : List (Signed ℕ)) → clause_number clauses w.number ≡ Some c → Contains c o)
     → Contains (literals_of (entries_of v)) o → lists' ≡ set lists (slot_of l) (set (list_at lists (slot_of l)) place w') → Visits clauses level l place v lists pairs v lists' pairs Kept
 visits_blocked clauses level l place v lists lists' pairs w w' o r inside at same blocker long has true_now new =
@@ -325,14 +325,14 @@ slot_within lists j place w at = elim (within j) [ inl h ↦ h | inr h ↦ absur
     past (x ∷ xs) (suc k) h = past xs k (omega (arith, h))
 
 -- the pair at the watch's number watches the literal
-pub watches_of : (clauses : List (Option (List (Signed ℕ)))) (lists : List (List Watch)) (pairs : List (Option Pair)) (l : Signed ℕ) (i n : ℕ) (w : Watch) (p : Pair) → AreWatched clauses lists pairs → slice_get (list_at lists (slot_of l)) i ≡ Some w
+pub watches_of : (clauses : List (Option (List (Signed ℕ)))) (lists : List (List Watch)) (pairs : List (Option WatchedPair)) (l : Signed ℕ) (i n : ℕ) (w : Watch) (p : WatchedPair) → AreWatched clauses lists pairs → slice_get (list_at lists (slot_of l)) i ≡ Some w
     → w.number ≡ n → pair_at pairs n ≡ Some p → Watches p l
 watches_of clauses lists pairs l i n w p h at same here =
     let x = watch_pair clauses lists pairs l i w h at in
     subst (λ q. Watches q l) (same_Some x.0 p (sym x.1 ∙ ap (pair_at pairs) same ∙ here)) x.2
 
 -- the blocker is a literal of the clause, and its atom is one
-pub blocker_below : (clauses : List (Option (List (Signed ℕ)))) (level : ℕ) (v : Values) (lists : List (List Watch)) (pairs : List (Option Pair)) (l : Signed ℕ) (i : ℕ) (w : Watch) → IsRunning clauses level v lists pairs → slice_get (list_at lists (slot_of l)) i ≡ Some w
+pub blocker_below : (clauses : List (Option (List (Signed ℕ)))) (level : ℕ) (v : Values) (lists : List (List Watch)) (pairs : List (Option WatchedPair)) (l : Signed ℕ) (i : ℕ) (w : Watch) → IsRunning clauses level v lists pairs → slice_get (list_at lists (slot_of l)) i ≡ Some w
     → w.blocker.atom < length v.entries.items
 blocker_below clauses level v lists pairs l i w r at =
     let x = watch_pair clauses lists pairs l i w r.watched at in
@@ -340,7 +340,7 @@ blocker_below clauses level v lists pairs l i w r at =
     atom_below clauses w.number (length v.entries.items) y.clause w.blocker r.below y.here (r.watched.blockers (slot_of l) w y.clause (Contains-slice_get (list_at lists (slot_of l)) i w at) y.here).here
 
 -- the clause of a watch that says that it has two literals
-pub binary_clause : (clauses : List (Option (List (Signed ℕ)))) (level : ℕ) (v : Values) (lists : List (List Watch)) (pairs : List (Option Pair)) (l : Signed ℕ) (i : ℕ) (w : Watch) → IsRunning clauses level v lists pairs → slice_get (list_at lists (slot_of l)) i ≡ Some w
+pub binary_clause : (clauses : List (Option (List (Signed ℕ)))) (level : ℕ) (v : Values) (lists : List (List Watch)) (pairs : List (Option WatchedPair)) (l : Signed ℕ) (i : ℕ) (w : Watch) → IsRunning clauses level v lists pairs → slice_get (list_at lists (slot_of l)) i ≡ Some w
     → w.binary ≡ true → IsFalseIn (entries_of v) l → (c : List (Signed ℕ)) × (clause_number clauses w.number ≡ Some c) × Contains c w.blocker × All (λ m. IsFalseIn (entries_of v) m ⊎ (m ≡ w.blocker)) c
 binary_clause clauses level v lists pairs l i w r at is f =
     let x = watch_pair clauses lists pairs l i w r.watched at in

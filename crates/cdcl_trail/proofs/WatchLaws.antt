@@ -12,7 +12,7 @@ use Rattle.inst_logic.specs.declared.signed.Signed.{Signed}
 use Rattle.prop_logic.proofs.ListLaws.{slice_get_set, slice_get_set_other, Contains-slice_get, slice_get-Contains, slice_get_take}
 use Rattle.cdcl_trail.specs.Clauses.{clause_number}
 use Rattle.cdcl_trail.specs.declared.watch.Watch.{Watch}
-use Rattle.cdcl_trail.specs.declared.watch.Pair.{Pair}
+use Rattle.cdcl_trail.specs.declared.watch.WatchedPair.{WatchedPair}
 use Rattle.cdcl_trail.specs.Watch.{slot_of, list_at, times, pair_in, pair_at, due, pair_of, HasBoth, IsPairOf, IsBlocker, AreWatched, IsMove}
 
 abbrev pub one_if : Bool → ℕ
@@ -49,16 +49,16 @@ contains_removed xs i w x here c =
       | inr same ↦ subst (Contains xs) (sym same) (Contains-slice_get xs last (get_or xs last w) end)
     ]
 
-pub pair_at_set : (pairs : List (Option Pair)) (n : ℕ) (o : Option Pair) → n < length pairs → pair_at (set pairs n o) n ≡ o
+pub pair_at_set : (pairs : List (Option WatchedPair)) (n : ℕ) (o : Option WatchedPair) → n < length pairs → pair_at (set pairs n o) n ≡ o
 pair_at_set pairs n o h = ap pair_in (slice_get_set pairs n o h)
 
-pub pair_at_other : (pairs : List (Option Pair)) (n m : ℕ) (o : Option Pair) → (m ≡ n → ⊥) → pair_at (set pairs n o) m ≡ pair_at pairs m
+pub pair_at_other : (pairs : List (Option WatchedPair)) (n m : ℕ) (o : Option WatchedPair) → (m ≡ n → ⊥) → pair_at (set pairs n o) m ≡ pair_at pairs m
 pair_at_other pairs n m o h = ap pair_in (slice_get_set_other pairs n m o h)
 
-pub pair_within : (pairs : List (Option Pair)) (n : ℕ) (p : Pair) → pair_at pairs n ≡ Some p → n < length pairs
+pub pair_within : (pairs : List (Option WatchedPair)) (n : ℕ) (p : WatchedPair) → pair_at pairs n ≡ Some p → n < length pairs
 pair_within pairs n p at = by_get (slice_get pairs n) refl
   where
-    by_get : (o : Option (Option Pair)) → slice_get pairs n ≡ o → n < length pairs
+    by_get : (o : Option (Option WatchedPair)) → slice_get pairs n ≡ o → n < length pairs
     by_get None e = absurd (none-some p (ap pair_in (sym e) ∙ at))
     by_get (Some x) e = slice_get_within pairs n x e
 
@@ -82,7 +82,7 @@ due_neither a b k e f =
     let u : (slot_of b == k) ≡ false = ne_eqb (slot_of b) k f in
     rw t (rw u refl)
 
-pub due_both : (p : Pair) (f o : Signed ℕ) (k : ℕ) → HasBoth p f o → due (Some p) k ≡ due (Some (pair_of f o)) k
+pub due_both : (p : WatchedPair) (f o : Signed ℕ) (k : ℕ) → HasBoth p f o → due (Some p) k ≡ due (Some (pair_of f o)) k
 due_both p f o k (inl h) = ap (λ x. due (Some (pair_of x p.second)) k) h.0 ∙ ap (λ x. due (Some (pair_of f x)) k) h.1
 due_both p f o k (inr h) = ap (λ x. due (Some (pair_of p.first x)) k) h.0 ∙ ap (λ x. due (Some (pair_of x f)) k) h.1 ∙ flip
   where
@@ -140,7 +140,7 @@ moved_other lists f next place w w' k a b =
     let more = list_at lists (slot_of next) ++ w' ∷ [] in
     get_or-set_other (set lists (slot_of next) more) (slot_of f) k (swap_remove (list_at lists (slot_of f)) place w) [] a ∙ get_or-set_other lists (slot_of next) k more [] b
 
-pub moved_watched : (clauses : List (Option (List (Signed ℕ)))) (lists : List (List Watch)) (pairs : List (Option Pair)) (f o next : Signed ℕ) (place : ℕ) (w : Watch) (p : Pair) (c : List (Signed ℕ))
+pub moved_watched : (clauses : List (Option (List (Signed ℕ)))) (lists : List (List Watch)) (pairs : List (Option WatchedPair)) (f o next : Signed ℕ) (place : ℕ) (w : Watch) (p : WatchedPair) (c : List (Signed ℕ))
     → IsMove clauses lists pairs f o next place w p c → AreWatched clauses (moved_lists lists f next place w (new_watch w o)) (set pairs w.number (Some (pair_of o next)))
 moved_watched clauses lists pairs f o next place w p c m = record {
   blockers = λ k x d has here. by_slot k x d has here;
@@ -228,7 +228,7 @@ moved_watched clauses lists pairs f o next place w p c m = record {
         of_rest_other : (k n : ℕ) → w.number ≢ n → slot_of f ≢ k → slot_of next ≢ k → times n (list_at (moved_lists lists f next place w (new_watch w o)) k) ≡ due (pair_at (set pairs w.number (Some (pair_of o next))) n) k
         of_rest_other k n other a b = at_rest k n a b ∙ sym (same_due k n other)
 
-    of_clause : (n : ℕ) (q : Pair) → pair_at (set pairs w.number (Some (pair_of o next))) n ≡ Some q → IsPairOf clauses n q
+    of_clause : (n : ℕ) (q : WatchedPair) → pair_at (set pairs w.number (Some (pair_of o next))) n ≡ Some q → IsPairOf clauses n q
     of_clause n q e = elim (cases_eq n w.number) [
       | inl same ↦
           let is : q ≡ pair_of o next = same_Some q (pair_of o next) (sym e ∙ ap (pair_at (set pairs w.number (Some (pair_of o next)))) same ∙ pair_at_set pairs w.number (Some (pair_of o next)) inside) in
@@ -243,7 +243,7 @@ moved_watched clauses lists pairs f o next place w p c m = record {
     ]
 
 -- a clause goes over to another literal, by the two steps of the move
-pub moved_by : (clauses : List (Option (List (Signed ℕ)))) (lists mid new : List (List Watch)) (pairs : List (Option Pair)) (f o next : Signed ℕ) (place number : ℕ) (r w : Watch) (p : Pair) (c : List (Signed ℕ))
+pub moved_by : (clauses : List (Option (List (Signed ℕ)))) (lists mid new : List (List Watch)) (pairs : List (Option WatchedPair)) (f o next : Signed ℕ) (place number : ℕ) (r w : Watch) (p : WatchedPair) (c : List (Signed ℕ))
     → mid ≡ set lists (slot_of next) (list_at lists (slot_of next) ++ (record { number = number; blocker = o; binary = false }) ∷ [])
     → slice_get (list_at mid (slot_of f)) place ≡ Some r → new ≡ set mid (slot_of f) (swap_remove (list_at mid (slot_of f)) place r) → w.number ≡ number
     → IsMove clauses lists pairs f o next place w p c → AreWatched clauses new (set pairs number (Some (pair_of o next)))
@@ -273,7 +273,7 @@ moved_list lists mid new f next place x r w inside apart first at second here =
     ∙ ap (λ xs. swap_remove xs place r) kept ∙ ap (swap_remove (list_at lists (slot_of f)) place) is
 
 -- another blocker
-pub blocker_put : (clauses : List (Option (List (Signed ℕ)))) (lists : List (List Watch)) (pairs : List (Option Pair)) (j place : ℕ) (w w' : Watch) → AreWatched clauses lists pairs → j < length lists
+pub blocker_put : (clauses : List (Option (List (Signed ℕ)))) (lists : List (List Watch)) (pairs : List (Option WatchedPair)) (j place : ℕ) (w w' : Watch) → AreWatched clauses lists pairs → j < length lists
     → slice_get (list_at lists j) place ≡ Some w → w'.number ≡ w.number → ((c : List (Signed ℕ)) → clause_number clauses w'.number ≡ Some c → IsBlocker c j w') → AreWatched clauses (set lists j (set (list_at lists j) place w')) pairs
 blocker_put clauses lists pairs j place w w' h inside at same has = record {
   blockers = λ k x c here e. by_slot k x c here e;
@@ -315,7 +315,7 @@ numbers_put lists j place w w' inside at same =
     ap (map f) (get_or-set_same lists j (set (list_at lists j) place w') [] inside)
     ∙ map-set_same f (list_at lists j) place w' w (same ∙ ap f (sym (get_or_from_slice_get (list_at lists j) place w w at)))
 
-pub pair_at_push : (pairs : List (Option Pair)) (k : ℕ) → pair_at (pairs ++ None ∷ []) k ≡ pair_at pairs k
+pub pair_at_push : (pairs : List (Option WatchedPair)) (k : ℕ) → pair_at (pairs ++ None ∷ []) k ≡ pair_at pairs k
 pair_at_push [] zero = refl
 pair_at_push [] (suc k) = refl
 pair_at_push (x ∷ xs) zero = refl

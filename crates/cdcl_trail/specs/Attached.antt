@@ -9,14 +9,14 @@ use Rattle.cdcl_trail.specs.Watch.{pair_at, AreWatched}
 use Rattle.cdcl_trail.specs.Watching.{IsTrueAt, IsSettled}
 use Rattle.cdcl_trail.specs.declared.entry.Entry.{Entry}
 use Rattle.cdcl_trail.specs.declared.watch.Head.{Head}
-use Rattle.cdcl_trail.specs.declared.watch.Pair.{Pair}
+use Rattle.cdcl_trail.specs.declared.watch.WatchedPair.{WatchedPair}
 use Rattle.cdcl_trail.specs.declared.watch.Watch.{Watch}
 
 -- how clauses are watched: the lists of the literals, the pairs of the clauses, copies of those that watch, the clauses that
 -- watch nothing, and how far propagation came at the present level and, before each level was opened, at the one below
 pub record Watching : Type 0 where
   pub lists : List (List Watch)
-  pub pairs : List (Option Pair)
+  pub pairs : List (Option WatchedPair)
   pub copies : List (Option (List (Signed ℕ)))
   pub loose : List ℕ
   pub head : Head

@@ -2,7 +2,7 @@
 use Rattle.std.specs.Prelude.{◌≡◌, ◌≢◌, ℕ, List, Contains, length, take}
 use Rattle.cdcl_trail.specs.Watch.{slot_of, list_at, times}
 use Rattle.cdcl_trail.specs.declared.watch.Head.{Head}
-use Rattle.cdcl_trail.specs.declared.watch.Pair.{Pair}
+use Rattle.cdcl_trail.specs.declared.watch.WatchedPair.{WatchedPair}
 use Rattle.cdcl_trail.specs.declared.watch.Watch.{Watch}
 
 -- clause n stands in the list of this slot no more; all else is as it was
@@ -22,7 +22,7 @@ pub record IsUnwatchedTo (n j place : ℕ) (old new : List (List Watch)) : Type 
   pub size : length new ≡ length old
 
 -- clause n stands in the lists of the pair no more; all else is as it was
-pub record IsUnwatchedBoth (n : ℕ) (p : Pair) (old new : List (List Watch)) : Type 0 where
+pub record IsUnwatchedBoth (n : ℕ) (p : WatchedPair) (old new : List (List Watch)) : Type 0 where
   pub first : times n (list_at new (slot_of p.first)) ≡ 0
   pub second : times n (list_at new (slot_of p.second)) ≡ 0
   pub others : (k m : ℕ) → m ≢ n → times m (list_at new k) ≡ times m (list_at old k)

@@ -4,7 +4,7 @@ use Rattle.std.specs.List.{slice_index_or, count_by}
 use Rattle.inst_logic.specs.declared.signed.Signed.{Signed}
 use Rattle.cdcl_trail.specs.Clauses.{clause_number}
 use Rattle.cdcl_trail.specs.declared.watch.Watch.{Watch}
-use Rattle.cdcl_trail.specs.declared.watch.Pair.{Pair}
+use Rattle.cdcl_trail.specs.declared.watch.WatchedPair.{WatchedPair}
 
 -- the place of a literal's list
 abbrev pub slot_of : Signed ℕ → ℕ
@@ -17,24 +17,24 @@ list_at lists k = slice_index_or lists k []
 abbrev pub times : ℕ → List Watch → ℕ
 times n watches = count_by (λ w. w.number == n) watches
 
-abbrev pub pair_in : Option (Option Pair) → Option Pair
+abbrev pub pair_in : Option (Option WatchedPair) → Option WatchedPair
 pair_in None = None
 pair_in (Some found) = found
 
 -- what clause n watches, if it watches
-abbrev pub pair_at : List (Option Pair) → ℕ → Option Pair
+abbrev pub pair_at : List (Option WatchedPair) → ℕ → Option WatchedPair
 pair_at pairs n = pair_in (slice_get pairs n)
 
-abbrev pub is_slot : Pair → ℕ → Bool
+abbrev pub is_slot : WatchedPair → ℕ → Bool
 is_slot p k = slot_of p.first == k || slot_of p.second == k
 
 -- how often a clause that watches this stands in the list of a slot
-abbrev pub due : Option Pair → ℕ → ℕ
+abbrev pub due : Option WatchedPair → ℕ → ℕ
 due None k = 0
 due (Some p) k = cond (is_slot p k) 1 0
 
 -- the clause has both literals, and they are two
-pub record IsPairOf (clauses : List (Option (List (Signed ℕ)))) (n : ℕ) (p : Pair) : Type 0 where
+pub record IsPairOf (clauses : List (Option (List (Signed ℕ)))) (n : ℕ) (p : WatchedPair) : Type 0 where
   pub clause : List (Signed ℕ)
   pub here : clause_number clauses n ≡ Some clause
   pub first : Contains clause p.first
@@ -47,20 +47,20 @@ pub record IsBlocker (c : List (Signed ℕ)) (k : ℕ) (w : Watch) : Type 0 wher
   pub only : w.binary ≡ true → All (λ m. (slot_of m ≡ k) ⊎ (m ≡ w.blocker)) c
 
 -- each clause that watches stands once in the lists of its two literals and in no other, with blockers that are literals of it
-pub record AreWatched (clauses : List (Option (List (Signed ℕ)))) (lists : List (List Watch)) (pairs : List (Option Pair)) : Type 0 where
+pub record AreWatched (clauses : List (Option (List (Signed ℕ)))) (lists : List (List Watch)) (pairs : List (Option WatchedPair)) : Type 0 where
   pub blockers : (k : ℕ) (w : Watch) (c : List (Signed ℕ)) → Contains (list_at lists k) w → clause_number clauses w.number ≡ Some c → IsBlocker c k w
   pub counted : (k n : ℕ) → times n (list_at lists k) ≡ due (pair_at pairs n) k
-  pub of_clauses : (n : ℕ) (p : Pair) → pair_at pairs n ≡ Some p → IsPairOf clauses n p
+  pub of_clauses : (n : ℕ) (p : WatchedPair) → pair_at pairs n ≡ Some p → IsPairOf clauses n p
 
-abbrev pub pair_of : Signed ℕ → Signed ℕ → Pair
+abbrev pub pair_of : Signed ℕ → Signed ℕ → WatchedPair
 pair_of a b = record { first = a; second = b }
 
 -- the pair has these two literals
-abbrev pub HasBoth : Pair → Signed ℕ → Signed ℕ → Type 0
+abbrev pub HasBoth : WatchedPair → Signed ℕ → Signed ℕ → Type 0
 HasBoth p f o = ((p.first ≡ f) × (p.second ≡ o)) ⊎ ((p.second ≡ f) × (p.first ≡ o))
 
 -- a watch of clause c, at a place of the list of f, may go to the list of the next literal
-pub record IsMove (clauses : List (Option (List (Signed ℕ)))) (lists : List (List Watch)) (pairs : List (Option Pair)) (f o next : Signed ℕ) (place : ℕ) (w : Watch) (p : Pair) (c : List (Signed ℕ)) : Type 0 where
+pub record IsMove (clauses : List (Option (List (Signed ℕ)))) (lists : List (List Watch)) (pairs : List (Option WatchedPair)) (f o next : Signed ℕ) (place : ℕ) (w : Watch) (p : WatchedPair) (c : List (Signed ℕ)) : Type 0 where
   pub watched : AreWatched clauses lists pairs
   pub in_f : slot_of f < length lists
   pub in_next : slot_of next < length lists

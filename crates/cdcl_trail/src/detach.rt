@@ -8,7 +8,7 @@ ghost use Rattle.cdcl_trail.specs.Detach.{IsUnwatched, IsUnwatchedBoth, IsUnwatc
 use crate::lists::{count_at, drop_watch, watch_at};
 use crate::packed_pair::PackedPair;
 use crate::visit::pair_of_clause;
-use crate::watch::{Head, Pair};
+use crate::watch::{Head, WatchedPair};
 use crate::watch_list::WatchList;
 use prop_logic::Lit;
 
@@ -28,7 +28,7 @@ fn unwatch_one(lists: &mut [WatchList], l: Lit, n: usize)
 }
 
 // Takes clause n out of the lists of the pair.
-fn unwatch_pair(lists: &mut [WatchList], pair: Pair, atoms: usize, n: usize)
+fn unwatch_pair(lists: &mut [WatchList], pair: WatchedPair, atoms: usize, n: usize)
     requires { length lists.old ≡ atoms + atoms }
     ensures both { pair.first.atom < atoms → pair.second.atom < atoms → slot_of pair.first ≢ slot_of pair.second → IsUnwatchedBoth n pair lists.old lists.new }
     ensures size { length lists.new ≡ length lists.old }

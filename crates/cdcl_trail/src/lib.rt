@@ -20,6 +20,7 @@ mod visit_list;
 mod visit_trail;
 mod watch;
 mod watch_list;
+mod watched_values;
 
 pub use clauses::Clauses;
 pub use entry::Entry;

@@ -1,6 +1,6 @@
 // The watch lists of all literals, in one vector: for atom a, at place 2a that of its negative literal and at 2a + 1 that of
 // its positive one.
-ghost use Rattle.std.specs.Prelude.{◌≡◌, ◌++◌, ◌∷◌, [], ◌<◌, ◌≤◌, ◌^◌, length, slice_get, slice_set, Some, OnOk};
+ghost use Rattle.std.specs.Prelude.{◌≡◌, ◌<◌, ◌≤◌, ◌^◌, length, slice_get, slice_set, Some};
 ghost use Rattle.std.specs.List.{swap_remove};
 ghost use Rattle.cdcl_trail.specs.Packed.{literal_of};
 ghost use Rattle.cdcl_trail.specs.Watch.{slot_of, list_at};
@@ -46,17 +46,7 @@ pub(crate) fn watch_at(lists: &[WatchList], l: Lit, place: usize) -> Watch
     ensures watch { slice_get (list_at lists.now (slot_of l)) place ≡ Some result }
     ensures number { result.number < 2 ^ 31 }
 {
-    lists[slot(l)].at(place)
-}
-
-pub(crate) fn add_watch(lists: &mut [WatchList], l: Lit, watch: Watch) -> Result<(), Memory>
-    requires slot { slot_of l < length lists.old }
-    requires number { watch.number < 2 ^ 31 }
-    requires blocker { slot_of watch.blocker < 2 ^ 32 }
-    ensures added { OnOk result (lists.new ≡ slice_set lists.old (slot_of l) (list_at lists.old (slot_of l) ++ watch ∷ [])) }
-    ensures size { length lists.new ≡ length lists.old }
-{
-    lists[slot(l)].push(watch)
+    lists[slot(l)].at(place).get()
 }
 
 pub(crate) fn drop_watch(lists: &mut [WatchList], l: Lit, place: usize) -> Watch
@@ -66,14 +56,4 @@ pub(crate) fn drop_watch(lists: &mut [WatchList], l: Lit, place: usize) -> Watch
     ensures dropped { lists.new ≡ slice_set lists.old (slot_of l) (swap_remove (list_at lists.old (slot_of l)) place result) }
 {
     lists[slot(l)].swap_remove(place)
-}
-
-pub(crate) fn put_watch(lists: &mut [WatchList], l: Lit, place: usize, watch: Watch)
-    requires slot { slot_of l < length lists.old }
-    requires place { place < length (list_at lists.old (slot_of l)) }
-    requires number { watch.number < 2 ^ 31 }
-    requires blocker { slot_of watch.blocker < 2 ^ 32 }
-    ensures { lists.new ≡ slice_set lists.old (slot_of l) (slice_set (list_at lists.old (slot_of l)) place watch) }
-{
-    lists[slot(l)].put(place, watch)
 }

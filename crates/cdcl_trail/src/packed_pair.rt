@@ -5,7 +5,7 @@ ghost use Rattle.std.specs.Prelude.{◌≡◌, ◌+◌, ◌<◌, ◌^◌, Some, 
 ghost use Rattle.cdcl_trail.specs.Watch.{slot_of};
 
 use crate::lists::{literal_at, slot};
-use crate::watch::Pair;
+use crate::watch::WatchedPair;
 use std::marker::Model;
 
 // No literal has this place.
@@ -21,9 +21,9 @@ pub struct PackedPair {
 
 impl Model for PackedPair {
     ghost use Rattle.std.specs.Prelude.{Option};
-    ghost use Rattle.cdcl_trail.specs.declared.watch.Pair.{Pair};
+    ghost use Rattle.cdcl_trail.specs.declared.watch.WatchedPair.{WatchedPair};
 
-    ghost Value = { Option Pair };
+    ghost Value = { Option WatchedPair };
 
     ghost use Rattle.cdcl_trail.specs.Packed.{pair_at_slots};
 
@@ -51,7 +51,7 @@ impl PackedPair {
         }
     }
 
-    pub(crate) fn of(pair: Pair) -> PackedPair
+    pub(crate) fn of(pair: WatchedPair) -> PackedPair
         requires first { slot_of pair.first + 1 < 2 ^ 32 }
         requires second { slot_of pair.second < 2 ^ 32 }
         ensures { result ≡ Some pair }
@@ -60,7 +60,7 @@ impl PackedPair {
     }
 
     // The pair, with the place at which the last look ended.
-    pub(crate) fn with_place(pair: Pair, place: usize) -> PackedPair
+    pub(crate) fn with_place(pair: WatchedPair, place: usize) -> PackedPair
         requires first { slot_of pair.first + 1 < 2 ^ 32 }
         requires second { slot_of pair.second < 2 ^ 32 }
         ensures { result ≡ Some pair }
@@ -78,13 +78,13 @@ impl PackedPair {
         self.from as usize
     }
 
-    pub(crate) fn get(&self) -> Option<Pair>
+    pub(crate) fn get(&self) -> Option<WatchedPair>
         ensures { result ≡ self.now }
     {
         if self.first == NONE {
             return None;
         }
-        Some(Pair {
+        Some(WatchedPair {
             first: literal_at(self.first),
             second: literal_at(self.second),
         })

@@ -5,6 +5,7 @@ ghost use Rattle.cdcl_trail.specs.Watch.{slot_of};
 
 use crate::lists::{literal_at, slot};
 use crate::watch::Watch;
+use prop_logic::Lit;
 use std::marker::Model;
 
 // Larger numbers of clauses have no room beside the bit.
@@ -58,6 +59,12 @@ impl PackedWatch {
             word: word(watch.number, watch.binary),
             blocker: slot(watch.blocker) as u32,
         }
+    }
+
+    pub(crate) fn blocker(&self) -> Lit
+        ensures { result ≡ self.now.blocker }
+    {
+        literal_at(self.blocker)
     }
 
     pub(crate) fn get(&self) -> Watch

@@ -21,6 +21,7 @@ use crate::propagation::saturate;
 use crate::values::Values;
 use crate::watch::Head;
 use crate::watch_list::WatchList;
+use crate::watched_values::WatchedValues;
 use inst_logic::Memory;
 use prop_logic::Lit;
 use std::alloc::Global;
@@ -31,11 +32,9 @@ use std::marker::Model;
 #[derive(Drop)]
 pub struct Trail {
     alloc: Global,
-    values: Values,
+    watched: WatchedValues,
     level: usize,
     spent: bool,
-    lists: Vec<WatchList>,
-    pairs: Vec<PackedPair>,
     attached: Attached,
     head: Head,
     heads: Vec<Head>,
@@ -51,11 +50,11 @@ impl Model for Trail {
     ghost use Rattle.cdcl_trail.specs.Trail.{IsTrail};
 
     ghost view = { λ t. record {
-      trail = record { atoms = length t.values.entries.items; level = t.level; entries = entries_of t.values; spent = t.spent };
-      watching = record { lists = t.lists.items; pairs = t.pairs.items; copies = t.attached.arena; loose = t.attached.loose.items; head = t.head; heads = t.heads.items };
+      trail = record { atoms = length t.watched.values.entries.items; level = t.level; entries = entries_of t.watched.values; spent = t.spent };
+      watching = record { lists = t.watched.lists.items; pairs = t.watched.pairs.items; copies = t.attached.arena; loose = t.attached.loose.items; head = t.head; heads = t.heads.items };
     } };
 
-    ghost invariant = { λ t. AreValues t.values × IsTrail (record { atoms = length t.values.entries.items; level = t.level; entries = entries_of t.values; spent = t.spent }) × (length t.lists.items ≡ length t.values.entries.items + length t.values.entries.items) × (length t.heads.items ≡ t.level) × (length t.values.entries.items ≤ vec_capacity t.heads) × (length t.attached.loose.items < 2 ^ 32) };
+    ghost invariant = { λ t. AreValues t.watched.values × IsTrail (record { atoms = length t.watched.values.entries.items; level = t.level; entries = entries_of t.watched.values; spent = t.spent }) × (length t.watched.lists.items ≡ length t.watched.values.entries.items + length t.watched.values.entries.items) × (length t.heads.items ≡ t.level) × (length t.watched.values.entries.items ≤ vec_capacity t.heads) × (length t.attached.loose.items < 2 ^ 32) };
 }
 
 // Takes the room of one more atom.
@@ -138,11 +137,13 @@ impl Trail {
     {
         Trail {
             alloc,
-            values: Values::new(alloc),
+            watched: WatchedValues {
+                values: Values::new(alloc),
+                lists: Vec::new(alloc),
+                pairs: Vec::new(alloc),
+            },
             level: 0,
             spent: false,
-            lists: Vec::new(alloc),
-            pairs: Vec::new(alloc),
             attached: Attached {
                 arena: Arena::new(alloc),
                 loose: Vec::new(alloc),
@@ -169,8 +170,8 @@ impl Trail {
         }
         match grow_all(
             self.alloc,
-            &mut self.values,
-            &mut self.lists,
+            &mut self.watched.values,
+            &mut self.watched.lists,
             &mut self.heads,
         ) {
             Ok(atom) => Ok(atom),
@@ -186,7 +187,7 @@ impl Trail {
         requires { l.atom < self.now.trail.atoms }
         ensures { result ≡ value_of self.now.trail.entries l }
     {
-        self.values.value(l)
+        self.watched.values.value(l)
     }
 
     /// The present level. Level 0 holds what follows from the clauses alone.
@@ -201,7 +202,7 @@ impl Trail {
         requires { atom < self.now.trail.atoms }
         ensures { result ≡ reason_of self.now.trail.entries atom }
     {
-        match self.values.entry(atom) {
+        match self.watched.values.entry(atom) {
             Some(entry) => entry.reason,
             None => None,
         }
@@ -212,7 +213,7 @@ impl Trail {
         requires { atom < self.now.trail.atoms }
         ensures { result ≡ level_of self.now.trail.entries atom }
     {
-        match self.values.entry(atom) {
+        match self.watched.values.entry(atom) {
             Some(entry) => Some(entry.level),
             None => None,
         }
@@ -224,7 +225,7 @@ impl Trail {
         ensures some { IfSome result (IsPlaceOf self.now.trail.entries atom) }
         ensures none { IfNone result (IsUnset self.now.trail.entries atom) }
     {
-        self.values.place(atom)
+        self.watched.values.place(atom)
     }
 
     /// The true literals in the order in which they became so.
@@ -232,14 +233,14 @@ impl Trail {
         ensures literals { result.now ≡ literals_of self.now.trail.entries }
         ensures trail { IsTrail self.now.trail }
     {
-        self.values.literals.as_slice()
+        self.watched.values.literals.as_slice()
     }
 
     /// Whether each atom has a value, without a look at the atoms.
     pub fn is_whole(&self) -> bool
         ensures { IsTrue result ↔ ((a : ℕ) → a < self.now.trail.atoms → ¬ IsUnset self.now.trail.entries a) }
     {
-        self.values.literals.len() == self.values.entries.len()
+        self.watched.values.literals.len() == self.watched.values.entries.len()
     }
 
     /// Opens a level with the literal. It takes no memory.
@@ -251,7 +252,7 @@ impl Trail {
     {
         self.heads.push_reserved(self.head);
         self.level += 1;
-        self.values.put(Entry {
+        self.watched.values.put(Entry {
             lit: l,
             level: self.level,
             reason: None,
@@ -271,7 +272,7 @@ impl Trail {
             level: self.level,
             reason: Some(reason),
         };
-        self.values.put(entry);
+        self.watched.values.put(entry);
     }
 
     /// Takes back the levels above this one, in time that follows the values that are taken back. Watches stay as they are.
@@ -282,7 +283,7 @@ impl Trail {
     {
         let head = restore(&mut self.heads, self.head, level);
         self.head = head;
-        self.values.back_to(level);
+        self.watched.values.back_to(level);
         self.level = level;
     }
 
@@ -299,7 +300,7 @@ impl Trail {
         if self.spent {
             return Err(Memory);
         }
-        match add_loose(&mut self.pairs, &mut self.attached.loose, n) {
+        match add_loose(&mut self.watched.pairs, &mut self.attached.loose, n) {
             Ok(()) => Ok(()),
             Err(error) => {
                 self.spent = true;
@@ -315,8 +316,8 @@ impl Trail {
         ensures trail { self.new.trail ≡ self.old.trail }
         ensures attached { (before after : List (Option (List (Signed ℕ)))) → RemovesClause before after n → AreAttached self.old before → AreAttached self.new after }
     {
-        let atoms = self.values.atoms();
-        unwatch(&mut self.lists, &mut self.pairs, atoms, n);
+        let atoms = self.watched.values.atoms();
+        unwatch(&mut self.watched.lists, &mut self.watched.pairs, atoms, n);
         self.attached.arena.remove(n);
         forget_loose(&mut self.attached.loose, n);
         unpass_all(&mut self.heads);
@@ -342,11 +343,9 @@ impl Trail {
         if self.spent {
             return Err(Memory);
         }
-        let before = self.values.literals.len();
+        let before = self.watched.values.literals.len();
         let found = saturate(
-            &mut self.values,
-            &mut self.lists,
-            &mut self.pairs,
+            &mut self.watched,
             &mut self.attached,
             &mut self.head,
             clauses,
@@ -355,7 +354,7 @@ impl Trail {
         match found {
             Ok(found) => Ok(found),
             Err(error) => {
-                self.values.undo_to(before);
+                self.watched.values.undo_to(before);
                 self.spent = true;
                 Err(error)
             }

@@ -21,7 +21,7 @@ pub struct Spot {
 
 /// The two literals that a clause watches.
 #[derive(Clone, Copy, Debug, PartialEq, Eq)]
-pub struct Pair {
+pub struct WatchedPair {
     pub first: Lit,
     pub second: Lit,
 }

@@ -40,12 +40,11 @@ impl WatchList {
         self.items.len()
     }
 
-    pub(crate) fn at(&self, place: usize) -> Watch
+    pub(crate) fn at(&self, place: usize) -> PackedWatch
         requires { place < length self.now }
-        ensures watch { slice_get self.now place ≡ Some result }
-        ensures number { result.number < 2 ^ 31 }
+        ensures { slice_get self.now place ≡ Some result }
     {
-        self.items[place].get()
+        self.items[place]
     }
 
     pub(crate) fn push(&mut self, watch: Watch) -> Result<(), Memory>

@@ -14,7 +14,7 @@ use Rattle.cdcl_trail.proofs.loose.settle_loose.Goals as goal
 
 pub loop-passed-init : goal.loop-passed-init
 loop-passed-init c = record {
-  run = loose_begins c.args.clauses.now c.args.level c.args.values.now c.args.lists.now c.args.pairs.now c.args.attached.now.loose.items c.args.passed.now c.requires.running c.requires.loose;
+  run = loose_begins c.args.clauses.now c.args.level c.args.watched.now.values c.args.watched.now.lists.items c.args.watched.now.pairs.items c.args.attached.now.loose.items c.args.passed.now c.requires.running c.requires.loose;
   copies = c.requires.copies;
 }
 
@@ -25,8 +25,8 @@ loop-passed-preserved-in-Passed c =
     let inside : l.passed < length l.attached.loose.items = omega (arith, l.attached.loose.ok.0) in
     let here : slice_get l.attached.loose.items l.passed ≡ Some n = slice_get-get_or l.attached.loose.items l.passed n inside ∙ ap Some (sym c.index.ensures) in
     let e = c.in_ok-look_at.ensures in
-    let true_now : IsTrueAt c.args.clauses.now (entries_of c.look_at.new.values) n = subst (IsLookedAt c.args.clauses.now n (entries_of c.look_at.new.values) c.look_at.new.pairs) c.in-Passed.is e.looked in
-    let run = loose_passed c.args.clauses.now c.args.level c.args.values.now l.values c.look_at.new.values c.look_at.new.lists l.lists c.args.pairs.now l.pairs c.look_at.new.pairs c.args.attached.now.loose.items l.attached.loose.items c.args.passed.now l.passed n
+    let true_now : IsTrueAt c.args.clauses.now (entries_of c.look_at.new.watched.values) n = subst (IsLookedAt c.args.clauses.now n (entries_of c.look_at.new.watched.values) c.look_at.new.watched.pairs.items) c.in-Passed.is e.looked in
+    let run = loose_passed c.args.clauses.now c.args.level c.args.watched.now.values l.watched.values c.look_at.new.watched.values c.look_at.new.watched.lists.items l.watched.lists.items c.args.watched.now.pairs.items l.watched.pairs.items c.look_at.new.watched.pairs.items c.args.attached.now.loose.items l.attached.loose.items c.args.passed.now l.passed n
     l.invariant.run here e.running e.runs true_now in
     record { run = run; copies = e.copies }
 
@@ -38,25 +38,25 @@ loop-passed-preserved c =
     let here : slice_get l.attached.loose.items l.passed ≡ Some n = slice_get-get_or l.attached.loose.items l.passed n inside ∙ ap Some (sym c.index.ensures) in
     let same : c.swap_remove.result ≡ n = same_Some c.swap_remove.result n (ap Some c.swap_remove.ensures.value ∙ sym (slice_get-get_or l.attached.loose.items l.passed c.swap_remove.result inside) ∙ here) in
     let e = c.in_ok-look_at.ensures in
-    let taken : (d : List (Signed ℕ)) → clause_number c.args.clauses.now n ≡ Some d → pair_at c.look_at.new.pairs n ≢ None =
-    subst (IsLookedAt c.args.clauses.now n (entries_of c.look_at.new.values) c.look_at.new.pairs) c.in-Taken.is e.looked in
-    let run = subst (λ ns. IsLooseRun c.args.clauses.now c.args.level c.args.values.now c.args.pairs.now c.args.attached.now.loose.items c.args.passed.now c.look_at.new.values c.look_at.new.lists c.look_at.new.pairs ns l.passed)
+    let taken : (d : List (Signed ℕ)) → clause_number c.args.clauses.now n ≡ Some d → pair_at c.look_at.new.watched.pairs.items n ≢ None =
+    subst (IsLookedAt c.args.clauses.now n (entries_of c.look_at.new.watched.values) c.look_at.new.watched.pairs.items) c.in-Taken.is e.looked in
+    let run = subst (λ ns. IsLooseRun c.args.clauses.now c.args.level c.args.watched.now.values c.args.watched.now.pairs.items c.args.attached.now.loose.items c.args.passed.now c.look_at.new.watched.values c.look_at.new.watched.lists.items c.look_at.new.watched.pairs.items ns l.passed)
     (sym (c.swap_remove.ensures.items ∙ ap (swap_remove l.attached.loose.items l.passed) same))
-    (loose_taken c.args.clauses.now c.args.level c.args.values.now l.values c.look_at.new.values c.look_at.new.lists l.lists c.args.pairs.now l.pairs c.look_at.new.pairs c.args.attached.now.loose.items l.attached.loose.items c.args.passed.now l.passed n
+    (loose_taken c.args.clauses.now c.args.level c.args.watched.now.values l.watched.values c.look_at.new.watched.values c.look_at.new.watched.lists.items l.watched.lists.items c.args.watched.now.pairs.items l.watched.pairs.items c.look_at.new.watched.pairs.items c.args.attached.now.loose.items l.attached.loose.items c.args.passed.now l.passed n
     l.invariant.run here e.running e.runs taken) in
     record { run = run; copies = e.copies }
 
 pub returns-in-False-clause-runs : goal.returns-in-False-clause-runs
 returns-in-False-clause-runs c =
     let l = c.loop-passed in
-    runs_on c.args.clauses.now c.args.level c.args.values.now l.values c.look_at.new.values c.args.pairs.now l.pairs c.look_at.new.pairs l.invariant.run.runs c.in_ok-look_at.ensures.runs
+    runs_on c.args.clauses.now c.args.level c.args.watched.now.values l.watched.values c.look_at.new.watched.values c.args.watched.now.pairs.items l.watched.pairs.items c.look_at.new.watched.pairs.items l.invariant.run.runs c.in_ok-look_at.ensures.runs
 
 pub returns-in-False-clause-loose : goal.returns-in-False-clause-loose
 returns-in-False-clause-loose c =
     let l = c.loop-passed in
-    loose_on c.args.clauses.now c.args.level l.values c.look_at.new.values l.pairs c.look_at.new.pairs l.attached.loose.items l.passed c.in_ok-look_at.ensures.runs l.invariant.run.are_loose
+    loose_on c.args.clauses.now c.args.level l.watched.values c.look_at.new.watched.values l.watched.pairs.items c.look_at.new.watched.pairs.items l.attached.loose.items l.passed c.in_ok-look_at.ensures.runs l.invariant.run.are_loose
 
 pub returns-in-False-clause-added : goal.returns-in-False-clause-added
 returns-in-False-clause-added c =
     let l = c.loop-passed in
-    (runs_on c.args.clauses.now c.args.level c.args.values.now l.values c.look_at.new.values c.args.pairs.now l.pairs c.look_at.new.pairs l.invariant.run.runs c.in_ok-look_at.ensures.runs).added
+    (runs_on c.args.clauses.now c.args.level c.args.watched.now.values l.watched.values c.look_at.new.watched.values c.args.watched.now.pairs.items l.watched.pairs.items c.look_at.new.watched.pairs.items l.invariant.run.runs c.in_ok-look_at.ensures.runs).added

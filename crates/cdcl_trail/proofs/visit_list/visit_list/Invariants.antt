@@ -4,7 +4,7 @@ use Rattle.cdcl_trail.specs.Running.{IsListRun}
 use Rattle.cdcl_trail.proofs.visit_list.visit_list.Given as goal
 
 abbrev pub invariant-loop-place : goal.invariant-loop-place
-invariant-loop-place l = IsListRun l.clauses l.level l.l l.place l.initial.values l.initial.pairs l.values l.lists l.pairs
+invariant-loop-place l = IsListRun l.clauses l.level l.l l.place l.initial.watched.values l.initial.watched.pairs.items l.watched.values l.watched.lists.items l.watched.pairs.items
 
 abbrev pub decreases-loop-place : goal.decreases-loop-place
-decreases-loop-place l = length (list_at l.lists (slot_of l.l)) - l.place
+decreases-loop-place l = length (list_at l.watched.lists.items (slot_of l.l)) - l.place

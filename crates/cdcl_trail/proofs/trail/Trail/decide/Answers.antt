@@ -11,19 +11,19 @@ use Rattle.cdcl_trail.proofs.trail.Trail.decide.Goals as goal
 pub put-requires-clause-level : goal.put-requires-clause-level
 put-requires-clause-level c =
     let s = c.self.inside in
-    omega (arith, level_small s.values s.level s.spent c.self.invariant.0 c.self.invariant.1)
+    omega (arith, level_small s.watched.values s.level s.spent c.self.invariant.0 c.self.invariant.1)
 
 pub push_reserved-requires : goal.push_reserved-requires
 push_reserved-requires c =
     let s = c.self.inside in
     let l = c.args.l in
-    let t : Trail = trail_of (length s.values.entries.items) s.level (entries_of s.values) s.spent in
+    let t : Trail = trail_of (length s.watched.values.entries.items) s.level (entries_of s.watched.values) s.spent in
     let low : l.atom < t.atoms = subst (λ (x : WatchedTrail). l.atom < x.trail.atoms) (sym c.self.view_is) c.requires.atom in
     let unset : IsUnset t.entries l.atom = subst (λ (x : WatchedTrail). IsUnset x.trail.entries l.atom) (sym c.self.view_is) c.requires.unset in
-    let b = s.values.entries.items in
-    let none = no_entry (entries_of s.values) b l.atom c.self.invariant.0.by_atom low unset in
-    let few : length (entries_of s.values) < length b = has_room (entries_of s.values) b l.atom c.self.invariant.0.by_atom none in
-    let within : s.level ≤ length (entries_of s.values) = level_within t c.self.invariant.1 in
+    let b = s.watched.values.entries.items in
+    let none = no_entry (entries_of s.watched.values) b l.atom c.self.invariant.0.by_atom low unset in
+    let few : length (entries_of s.watched.values) < length b = has_room (entries_of s.watched.values) b l.atom c.self.invariant.0.by_atom none in
+    let within : s.level ≤ length (entries_of s.watched.values) = level_within t c.self.invariant.1 in
     omega (arith, few, within, c.self.invariant.3, c.self.invariant.4, s.heads.ok.0)
 
 pub put-requires-clause-unset : goal.put-requires-clause-unset
@@ -34,7 +34,7 @@ pub invariant_of-self : goal.invariant_of-self
 invariant_of-self c =
     let s = c.self.inside in
     let l = c.args.l in
-    let t : Trail = trail_of (length s.values.entries.items) s.level (entries_of s.values) s.spent in
+    let t : Trail = trail_of (length s.watched.values.entries.items) s.level (entries_of s.watched.values) s.spent in
     let low : l.atom < t.atoms = subst (λ (x : WatchedTrail). l.atom < x.trail.atoms) (sym c.self.view_is) c.requires.atom in
     let unset : IsUnset t.entries l.atom = subst (λ (x : WatchedTrail). IsUnset x.trail.entries l.atom) (sym c.self.view_is) c.requires.unset in (
       c.put.ensures.values,
@@ -49,13 +49,13 @@ pub returns-clause-attached : goal.returns-clause-attached
 returns-clause-attached c clauses a =
     let s = c.self.inside in
     let l = c.args.l in
-    let t : Trail = trail_of (length s.values.entries.items) s.level (entries_of s.values) s.spent in
+    let t : Trail = trail_of (length s.watched.values.entries.items) s.level (entries_of s.watched.values) s.spent in
     let low : l.atom < t.atoms = subst (λ (x : WatchedTrail). l.atom < x.trail.atoms) (sym c.self.view_is) c.requires.atom in
     let unset : IsUnset t.entries l.atom = subst (λ (x : WatchedTrail). IsUnset x.trail.entries l.atom) (sym c.self.view_is) c.requires.unset in
-    let w : Watching = record { lists = s.lists.items; pairs = s.pairs.items; copies = s.attached.arena; loose = s.attached.loose.items; head = s.head; heads = s.heads.items } in
+    let w : Watching = record { lists = s.watched.lists.items; pairs = s.watched.pairs.items; copies = s.attached.arena; loose = s.attached.loose.items; head = s.head; heads = s.heads.items } in
     let old : AreAttached (record { trail = t; watching = w }) clauses = subst (λ x. AreAttached x clauses) (sym c.self.view_is) a in
     let new = attached_decided t w l clauses c.self.invariant.1 (decided t l c.self.invariant.1 low unset) c.self.invariant.3 old in
     attached_as (with_decision t l) (trail_of (length c.put.new.self.entries.items) (s.level + 1) (entries_of c.put.new.self) s.spent)
-    (record { lists = s.lists.items; pairs = s.pairs.items; copies = s.attached.arena; loose = s.attached.loose.items; head = s.head; heads = s.heads.items ++ s.head ∷ [] }) (record { lists = s.lists.items; pairs = s.pairs.items; copies = s.attached.arena; loose = s.attached.loose.items; head = s.head; heads = c.push_reserved.new.self.items }) clauses
+    (record { lists = s.watched.lists.items; pairs = s.watched.pairs.items; copies = s.attached.arena; loose = s.attached.loose.items; head = s.head; heads = s.heads.items ++ s.head ∷ [] }) (record { lists = s.watched.lists.items; pairs = s.watched.pairs.items; copies = s.attached.arena; loose = s.attached.loose.items; head = s.head; heads = c.push_reserved.new.self.items }) clauses
     (trail_as (length c.put.new.self.entries.items) (s.level + 1) (entries_of c.put.new.self) s.spent (with_decision t l) c.put.ensures.atoms refl c.put.ensures.entries refl)
-    (ap (λ hs. record { lists = s.lists.items; pairs = s.pairs.items; copies = s.attached.arena; loose = s.attached.loose.items; head = s.head; heads = hs }) c.push_reserved.ensures.items) new
+    (ap (λ hs. record { lists = s.watched.lists.items; pairs = s.watched.pairs.items; copies = s.attached.arena; loose = s.attached.loose.items; head = s.head; heads = hs }) c.push_reserved.ensures.items) new

@@ -10,7 +10,7 @@ use Rattle.cdcl_trail.proofs.trail.Trail.imply.Goals as goal
 pub put-requires-clause-level : goal.put-requires-clause-level
 put-requires-clause-level c =
     let s = c.self.inside in
-    omega (arith, level_small s.values s.level s.spent c.self.invariant.0 c.self.invariant.1)
+    omega (arith, level_small s.watched.values s.level s.spent c.self.invariant.0 c.self.invariant.1)
 
 pub put-requires-clause-unset : goal.put-requires-clause-unset
 put-requires-clause-unset c =
@@ -20,7 +20,7 @@ pub invariant_of-self : goal.invariant_of-self
 invariant_of-self c =
     let s = c.self.inside in
     let l = c.args.l in
-    let t : Trail = trail_of (length s.values.entries.items) s.level (entries_of s.values) s.spent in
+    let t : Trail = trail_of (length s.watched.values.entries.items) s.level (entries_of s.watched.values) s.spent in
     let low : l.atom < t.atoms = subst (λ (x : WatchedTrail). l.atom < x.trail.atoms) (sym c.self.view_is) c.requires.atom in
     let unset : IsUnset t.entries l.atom = subst (λ (x : WatchedTrail). IsUnset x.trail.entries l.atom) (sym c.self.view_is) c.requires.unset in (
       c.put.ensures.values,
@@ -35,10 +35,10 @@ pub returns-clause-attached : goal.returns-clause-attached
 returns-clause-attached c clauses a =
     let s = c.self.inside in
     let l = c.args.l in
-    let t : Trail = trail_of (length s.values.entries.items) s.level (entries_of s.values) s.spent in
+    let t : Trail = trail_of (length s.watched.values.entries.items) s.level (entries_of s.watched.values) s.spent in
     let low : l.atom < t.atoms = subst (λ (x : WatchedTrail). l.atom < x.trail.atoms) (sym c.self.view_is) c.requires.atom in
     let unset : IsUnset t.entries l.atom = subst (λ (x : WatchedTrail). IsUnset x.trail.entries l.atom) (sym c.self.view_is) c.requires.unset in
-    let w : Watching = record { lists = s.lists.items; pairs = s.pairs.items; copies = s.attached.arena; loose = s.attached.loose.items; head = s.head; heads = s.heads.items } in
+    let w : Watching = record { lists = s.watched.lists.items; pairs = s.watched.pairs.items; copies = s.attached.arena; loose = s.attached.loose.items; head = s.head; heads = s.heads.items } in
     let old : AreAttached (record { trail = t; watching = w }) clauses = subst (λ x. AreAttached x clauses) (sym c.self.view_is) a in
     let new = attached_implied t w l c.args.reason clauses c.self.invariant.1 (implied t l c.args.reason c.self.invariant.1 low unset) c.self.invariant.3 old in
     attached_as (with_implied t l c.args.reason) (trail_of (length c.put.new.self.entries.items) s.level (entries_of c.put.new.self) s.spent) w w clauses
