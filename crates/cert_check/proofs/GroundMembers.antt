@@ -25,7 +25,9 @@ use Rattle.cert_values.specs.declared.certificate.Base.{Base}
 use Rattle.cert_values.specs.declared.member.Member.{Member}
 use Rattle.cert_values.specs.Values.{base_of, entry_of}
 use Rattle.cert_check.specs.Grounds.{AreCanonicalMembers, IsGroundAt}
+use Rattle.cert_values.specs.Wholes.{IsWholeBase, KeepsBase}
 use Rattle.cert_check.proofs.Bases.{member_canonical}
+use Rattle.cert_check.proofs.CoverLaws.{canonical_later}
 
 -- where each of the terms is the same, so is the instance
 pub same_instance : (f : Forest) (terms : List ℕ) (term : ℕ) (c : TreeClause) → IsCanonical c → length (order_of c) ≤ length terms → All (λ id. id ≡ term) terms
@@ -50,7 +52,7 @@ count_same bot f ms =
     length-map (entry_clauses (map (entry_of f) ms)) (abstraction bot) ∙ length-map (map (entry_of f) ms) (λ (e : Entry). e.clause) ∙ length-map ms (entry_of f)
 
 -- an instance under the constant is the abstraction
-pub abstraction_grown : (bot : Sym) (f g : Forest) → Extends f g → (constant : ℕ) (c : List (Signed ℕ)) → IsClauseOf f c → tree_at g constant ≡ app bot none → instance (λ _. tree_at g constant) (clause_at g c) ≡ abstraction bot (clause_at f c)
+abstraction_grown : (bot : Sym) (f g : Forest) → Extends f g → (constant : ℕ) (c : List (Signed ℕ)) → IsClauseOf f c → tree_at g constant ≡ app bot none → instance (λ _. tree_at g constant) (clause_at g c) ≡ abstraction bot (clause_at f c)
 abstraction_grown bot f g grown constant c ids at =
     ap (λ (d : TreeClause). instance (λ _. tree_at g constant) d) (clause_extends f g grown c ids) ∙ ap (λ (t : Tree). instance (λ _. t) (clause_at f c)) at
 
@@ -61,12 +63,6 @@ canonical_members b right =
 
 -- the members and ground clauses in a bank that has grown
 module _ (f g : Forest) (grown : Extends f g) where
-  pub members_of : (ms : List Member) → All (λ m. IsClauseOf f m.clause) ms → All (λ m. IsClauseOf g m.clause) ms
-  members_of ms h i d within = clause_of_extends f g grown (get_or ms i d).clause (h i d within)
-
-  pub canonical_grown : (ms : List Member) → All (λ m. IsClauseOf f m.clause) ms → AreCanonicalMembers f ms → AreCanonicalMembers g ms
-  canonical_grown ms h canonical i d within = subst IsCanonical (sym (clause_extends f g grown (get_or ms i d).clause (h i d within))) (canonical i d within)
-
   pub grounds_of : (cs : List (List (Signed ℕ))) → All (IsClauseOf f) cs → All (IsClauseOf g) cs
   grounds_of cs h i d within = clause_of_extends f g grown (get_or cs i d) (h i d within)
 
@@ -78,7 +74,7 @@ module _ (f g : Forest) (grown : Extends f g) where
         (all_abstracted ms (All-tail (λ (x : Member). IsClauseOf f x.clause) m ms h))
 
     -- a right ground clause at place i in the grown bank is right in the first one
-    pub ground_same : (ms : List Member) (cs : List (List (Signed ℕ))) → All (λ m. IsClauseOf f m.clause) ms → All (IsClauseOf f) cs → (i : ℕ)
+    ground_same : (ms : List Member) (cs : List (List (Signed ℕ))) → All (λ m. IsClauseOf f m.clause) ms → All (IsClauseOf f) cs → (i : ℕ)
         → IsGroundAt g constant ms cs i ↔ (slice_get (map (clause_at f) cs) i ≡ slice_get (abstractions bot f ms) i)
     ground_same ms cs in_ms in_cs i = ((λ e. sym left ∙ e ∙ right), (λ e. left ∙ e ∙ sym right))
       where
@@ -87,3 +83,17 @@ module _ (f g : Forest) (grown : Extends f g) where
 
         right : option_map (λ m. instance (λ _. tree_at g constant) (clause_at g m.clause)) (slice_get ms i) ≡ slice_get (abstractions bot f ms) i
         right = sym (slice_get-map (λ (m : Member). instance (λ _. tree_at g constant) (clause_at g m.clause)) ms i) ∙ ap (λ (xs : List TreeClause). slice_get xs i) (all_abstracted ms in_ms)
+
+-- and of a base that was kept
+module _ (a b : Base) (whole : IsWholeBase a) (kept : KeepsBase a b) where
+  members_kept : b.members ≡ a.members
+  members_kept = ap (λ (x : Base). x.members) kept.rest
+
+  pub canonical_kept : AreCanonicalMembers a.bank a.members → AreCanonicalMembers b.bank b.members
+  canonical_kept h = subst (AreCanonicalMembers b.bank) (sym members_kept) (canonical_later a.bank b.bank kept.bank a.members whole.members h)
+
+  pub ground_kept : (bot : Sym) (constant : ℕ) → tree_at b.bank constant ≡ app bot none → (cs : List (List (Signed ℕ))) → All (IsClauseOf a.bank) cs → (i : ℕ)
+      → IsGroundAt b.bank constant b.members cs i ↔ (slice_get (map (clause_at a.bank) cs) i ≡ slice_get (abstractions bot a.bank a.members) i)
+  ground_kept bot constant at cs in_cs i =
+      subst (λ (ms : List Member). IsGroundAt b.bank constant ms cs i ↔ (slice_get (map (clause_at a.bank) cs) i ≡ slice_get (abstractions bot a.bank a.members) i)) (sym members_kept)
+      (ground_same a.bank b.bank kept.bank bot constant at a.members cs (λ k d within. (whole.members k d within).ids) in_cs i)

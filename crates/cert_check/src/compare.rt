@@ -36,7 +36,6 @@ pub struct Progress {
 
 // Whether the cover's clause is the instance of the side's member under the bindings, and what it names covers it.
 pub fn is_named(
-    alloc: Global,
     cert: &mut Saturation,
     rooms: &mut PairRoom,
     due: DueSide,
@@ -65,6 +64,7 @@ pub fn is_named(
     if !is_instance(workspace, bank, &mut rooms.comparison, &of, &cover.clause)? {
         return Ok(false);
     }
+    let alloc = rooms.workspace.alloc();
     holds_by(
         alloc,
         &mut cert.base.bank,
@@ -77,7 +77,6 @@ pub fn is_named(
 
 // Whether the cover at the place, counted from 0, is that of the side.
 fn is_right_cover(
-    alloc: Global,
     cert: &mut Covered,
     rooms: &mut PairRoom,
     due: DueSide,
@@ -103,7 +102,7 @@ fn is_right_cover(
     if is_made(&cert.cert, due, cover) {
         return Ok(true);
     }
-    is_named(alloc, &mut cert.cert, rooms, due, cover)
+    is_named(&mut cert.cert, rooms, due, cover)
 }
 
 // Notes whether the next cover is right.
@@ -122,7 +121,6 @@ fn note(progress: &mut Progress, _covers: &[Cover], right: bool)
 // Compares the next cover with the side, where the unifier is proper on it and no cover was wrong. The answer is
 // whether the unifier is proper on the side.
 fn compare_side(
-    alloc: Global,
     cert: &mut Covered,
     rooms: &mut PairRoom,
     due: DueSide,
@@ -147,7 +145,7 @@ fn compare_side(
     if progress.wrong {
         return Ok(true);
     }
-    let right = is_right_cover(alloc, cert, rooms, due, progress.count)?;
+    let right = is_right_cover(cert, rooms, due, progress.count)?;
     note(progress, cert.covers.as_slice(), right);
     Ok(true)
 }
@@ -155,7 +153,6 @@ fn compare_side(
 // Compares the covers of members `i` and `j`, counted from 0, for the unifier that the bindings stand for. False comes where it
 // is proper on neither side.
 fn compare_meeting(
-    alloc: Global,
     cert: &mut Covered,
     rooms: &mut PairRoom,
     i: usize,
@@ -179,20 +176,19 @@ fn compare_meeting(
         own: i,
         other: j,
     };
-    let on_left = compare_side(alloc, cert, rooms, left, progress)?;
+    let on_left = compare_side(cert, rooms, left, progress)?;
     let right = DueSide {
         side: Side::Right,
         own: j,
         other: i,
     };
-    let on_right = compare_side(alloc, cert, rooms, right, progress)?;
+    let on_right = compare_side(cert, rooms, right, progress)?;
     Ok(on_left || on_right)
 }
 
 // Compares the covers of members `i` and `j`, counted from 0, for their unifier. False comes where they meet and it is proper on
 // neither side.
 fn compare_unified(
-    alloc: Global,
     cert: &mut Covered,
     rooms: &mut PairRoom,
     i: usize,
@@ -217,13 +213,12 @@ fn compare_unified(
     if !rooms.bindings.unify(&cert.cert.base.bank, l.atom, m.atom)? {
         return Ok(true);
     }
-    compare_meeting(alloc, cert, rooms, i, j, progress)
+    compare_meeting(cert, rooms, i, j, progress)
 }
 
 // Compares the covers of members `i` and `j`, counted from 0. Nothing is unified where origins tell what is due. False comes
 // where the members meet and the unifier is proper on neither side.
 fn compare_pair(
-    alloc: Global,
     cert: &mut Covered,
     rooms: &mut PairRoom,
     i: usize,
@@ -243,13 +238,12 @@ fn compare_pair(
     if pass_made(cert, i, j, progress) {
         return Ok(true);
     }
-    compare_unified(alloc, cert, rooms, i, j, progress)
+    compare_unified(cert, rooms, i, j, progress)
 }
 
 // Compares the covers of member `i`, counted from 0, with each of the list, up to the first with which its unifier is proper on
 // neither side, whose number is the answer.
 fn compare_among(
-    alloc: Global,
     cert: &mut Covered,
     rooms: &mut PairRoom,
     i: usize,
@@ -267,7 +261,7 @@ fn compare_among(
     ensures gives { IfOk result (λ o. o ≡ None → GivesRow (saturation_of cert.old.cert) i (AreCompared (covered_of cert.old) progress.old) (AreCompared (covered_of cert.old) progress.new)) }
 {
     for j in partners {
-        if !compare_pair(alloc, cert, rooms, i, *j, progress)? {
+        if !compare_pair(cert, rooms, i, *j, progress)? {
             let members = cert.cert.base.members.as_slice();
             return Ok(Some(number_at(members, *j)));
         }
@@ -277,7 +271,6 @@ fn compare_among(
 
 // Compares the covers of member `i`, counted from 0, with each later member, as far as the unifiers are proper on a side.
 fn compare_row(
-    alloc: Global,
     cert: &mut Covered,
     meetings: &Meetings,
     rooms: &mut RowRoom,
@@ -296,12 +289,11 @@ fn compare_row(
 {
     let RowRoom { pair, partners } = rooms;
     meetings.later_partners(partners, &cert.cert, i)?;
-    compare_among(alloc, cert, pair, i, partners.as_slice(), progress)
+    compare_among(cert, pair, i, partners.as_slice(), progress)
 }
 
 // Compares the covers of all members, with room to work in.
 fn compare_rows(
-    alloc: Global,
     cert: &mut Covered,
     meetings: &Meetings,
     rooms: &mut RowRoom,
@@ -317,7 +309,7 @@ fn compare_rows(
     ensures compared { IfOk result (λ o. o ≡ None → (ds : List Due) × AreDue (saturation_of cert.old.cert) ds × AreCompared (covered_of cert.old) progress.new ds) }
 {
     for i in 0..cert.cert.base.members.len() {
-        if let Some(right) = compare_row(alloc, cert, meetings, rooms, i, progress)? {
+        if let Some(right) = compare_row(cert, meetings, rooms, i, progress)? {
             return Ok(Some((i + 1, right)));
         }
     }
@@ -341,7 +333,7 @@ pub fn compare_pairs(
     ensures compared { IfOk result (λ o. o ≡ None → (ds : List Due) × AreDue (saturation_of cert.old.cert) ds × AreCompared (covered_of cert.old) progress.new ds) }
 {
     let mut rooms = RowRoom::new(alloc);
-    compare_rows(alloc, cert, meetings, &mut rooms, progress)
+    compare_rows(cert, meetings, &mut rooms, progress)
 }
 
 // The number of the first wrong cover, or of the first past what is due, where all pairs were compared.

@@ -110,10 +110,10 @@ fn seen_side(
     let Some(cover) = covers.get(at) else {
         return Ok(None);
     };
-    let alloc = pair.workspace.alloc();
-    if !is_named(alloc, cert, pair, due, cover)? {
+    if !is_named(cert, pair, due, cover)? {
         return Ok(None);
     }
+    let alloc = pair.workspace.alloc();
     let clause = clause_copy(alloc, &cover.clause)?;
     let by = by_copy(alloc, &cover.by)?;
     Ok(Some(Named { clause, by }))

@@ -138,8 +138,7 @@ fn wrong_ground(alloc: Global, cert: &mut FirstRefutation) -> Result<Option<usiz
     ensures whole { OnOk result (IsWholeFirst cert.new) }
     ensures first { IfOk result (IsFirstWrongOf (IsRightGround (first_of cert.old))) }
 {
-    let bank = &mut cert.base.bank;
-    first_wrong_ground(alloc, bank, &cert.bot, &cert.base.members, &cert.grounds)
+    first_wrong_ground(alloc, &mut cert.base, &cert.bot, &cert.grounds)
 }
 
 // The number of the first step that has no hint or is not shown.

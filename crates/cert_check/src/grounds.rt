@@ -6,13 +6,14 @@ ghost use Rattle.inst_logic.specs.Derivations.{at_number};
 ghost use Rattle.inst_logic.specs.WellFormed.{IsTerm, is_constant};
 ghost use Rattle.inst_calculus.specs.Abstraction.{abstraction};
 ghost use Rattle.inst_calculus.specs.Entries.{entry_clauses};
-ghost use Rattle.cert_values.specs.Values.{entry_of};
+ghost use Rattle.cert_values.specs.Values.{base_of};
+ghost use Rattle.cert_values.specs.Wholes.{IsWholeBase, KeepsBase};
 ghost use Rattle.term_bank.specs.Forest.{AreFormed, Extends, IsClauseAt, IsClauseOf, clause_at, tree_at};
 ghost use Rattle.cert_check.specs.Firsts.{IsFirstWrongOf};
 ghost use Rattle.cert_check.specs.Grounds.{AreCanonicalMembers, IsGroundAt};
 
 use cert_inference::same_trees;
-use cert_values::MemberList;
+use cert_values::Base;
 use clause_form::{greatest_variable, under};
 use inst_logic::{Kind, Memory, Sym};
 use std::alloc::Global;
@@ -116,23 +117,24 @@ fn is_under(
 // neither is there.
 fn is_ground_at(
     alloc: Global,
-    bank: &mut Bank,
+    base: &mut Base,
     term: TermId,
-    members: &MemberList,
     grounds: &IdClauseList,
     i: usize,
 ) -> Result<bool, Memory>
-    requires within { term < length bank.old.trees }
-    requires is_term { IsTerm (tree_at bank.old term) }
-    requires members { All (λ m. IsClauseOf bank.old m.clause) members.now }
-    requires canonical { AreCanonicalMembers bank.old members.now }
-    requires grounds { All (IsClauseOf bank.old) grounds.now }
-    ensures right { IfOk result (λ r. IsTrue r ↔ IsGroundAt bank.old term members.now grounds.now i) }
-    ensures extends { Extends bank.old bank.new }
-    ensures formed { AreFormed bank.old → AreFormed bank.new }
+    requires within { term < length base.old.bank.trees }
+    requires is_term { IsTerm (tree_at base.old.bank term) }
+    requires whole { IsWholeBase base.old }
+    requires canonical { AreCanonicalMembers base.old.bank base.old.members }
+    requires grounds { All (IsClauseOf base.old.bank) grounds.now }
+    ensures right { IfOk result (λ r. IsTrue r ↔ IsGroundAt base.old.bank term base.old.members grounds.now i) }
+    ensures kept { KeepsBase base.old base.new }
+    ensures whole { IsWholeBase base.new }
 {
-    match (grounds.get(i), members.get(i)) {
-        (Some(ground), Some(member)) => is_under(alloc, bank, term, &member.clause, ground),
+    match (grounds.get(i), base.members.get(i)) {
+        (Some(ground), Some(member)) => {
+            is_under(alloc, &mut base.bank, term, &member.clause, ground)
+        }
         (None, None) => Ok(true),
         _ => Ok(false),
     }
@@ -141,23 +143,21 @@ fn is_ground_at(
 // The number of the first ground clause that is not its member's clause with the constant in the place of every variable.
 pub fn first_wrong_ground(
     alloc: Global,
-    bank: &mut Bank,
+    base: &mut Base,
     bot: &Sym,
-    members: &MemberList,
     grounds: &IdClauseList,
 ) -> Result<Option<usize>, Memory>
-    requires formed { AreFormed bank.old }
+    requires whole { IsWholeBase base.old }
     requires bot { IsTrue (is_constant bot.now) }
-    requires members { All (λ m. IsClauseOf bank.old m.clause) members.now }
-    requires canonical { AreCanonicalMembers bank.old members.now }
-    requires grounds { All (IsClauseOf bank.old) grounds.now }
-    ensures first { IfOk result (IsFirstWrongOf (λ n. at_number (map (clause_at bank.old) grounds.now) n ≡ at_number (map (abstraction bot.now) (entry_clauses (map (entry_of bank.old) members.now))) n)) }
-    ensures extends { Extends bank.old bank.new }
-    ensures formed { AreFormed bank.new }
+    requires canonical { AreCanonicalMembers base.old.bank base.old.members }
+    requires grounds { All (IsClauseOf base.old.bank) grounds.now }
+    ensures first { IfOk result (IsFirstWrongOf (λ n. at_number (map (clause_at base.old.bank) grounds.now) n ≡ at_number (map (abstraction bot.now) (entry_clauses (base_of base.old).members)) n)) }
+    ensures kept { KeepsBase base.old base.new }
+    ensures whole { IsWholeBase base.new }
 {
-    let constant = bank.app(bot, &[])?;
-    for i in 0..members.len().max(grounds.len()) {
-        if !is_ground_at(alloc, bank, constant, members, grounds, i)? {
+    let constant = base.bank.app(bot, &[])?;
+    for i in 0..base.members.len().max(grounds.len()) {
+        if !is_ground_at(alloc, base, constant, grounds, i)? {
             return Ok(Some(i + 1));
         }
     }

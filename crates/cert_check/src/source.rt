@@ -11,13 +11,13 @@ ghost use Rattle.inst_logic.specs.Substitution.{subst};
 ghost use Rattle.clause_form.specs.Walks.{listed};
 ghost use Rattle.cert_check.specs.Sources.{AreConclusionTerms, AreFirstMembers, AreSources, AreUnifiedTerms, Conclude, IsSource, Unify};
 
-use cert_inference::{Premises, literal_at, numbered_item};
+use cert_inference::{PairRoom, Premises, literal_at, numbered_item};
 use cert_values::{Base, Member, Origin};
 use clause_form::{conclude, greatest_variable, terms_under};
 use inst_logic::Memory;
 use std::alloc::Global;
 use term_bank::{Bank, IdClause, IdLiteral, TermIdList};
-use unify_core::{Bindings, Side};
+use unify_core::Side;
 
 /// The number of an input or axiom, and a term for each of its variables, in the order in which these first occur.
 #[derive(Drop)]
@@ -48,9 +48,8 @@ fn own_variables(alloc: Global, bank: &mut Bank, c: &IdClause) -> Result<TermIdL
 // The terms that the variables of the clause become under the most general unifier of its literal `l` and `m`, over the variables
 // of its canonical instance.
 fn unified_terms(
-    alloc: Global,
     bank: &mut Bank,
-    bindings: &mut Bindings,
+    room: &mut PairRoom,
     clause: &IdClause,
     l: IdLiteral,
     m: IdLiteral,
@@ -65,18 +64,18 @@ fn unified_terms(
     ensures extends { Extends bank.old bank.new }
     ensures formed { AreFormed bank.old → AreFormed bank.new }
 {
-    if !bindings.unify(bank, l.atom, m.atom)? {
+    if !room.bindings.unify(bank, l.atom, m.atom)? {
         unreachable!();
     }
-    let conclusion = conclude(alloc, bank, bindings, Side::Left, clause)?;
+    let alloc = room.workspace.alloc();
+    let conclusion = conclude(alloc, bank, &room.bindings, Side::Left, clause)?;
     Ok(conclusion.terms)
 }
 
 // The terms that the variables of the first member become in what it concludes.
 fn conclusion_terms(
-    alloc: Global,
     bank: &mut Bank,
-    bindings: &mut Bindings,
+    room: &mut PairRoom,
     members: &[Member],
     premises: Premises,
 ) -> Result<TermIdList, Memory>
@@ -97,7 +96,7 @@ fn conclusion_terms(
     let Some(m) = literal_at(members, premises.partner, premises.other) else {
         unreachable!();
     };
-    unified_terms(alloc, bank, bindings, &member.clause, l, m)
+    unified_terms(bank, room, &member.clause, l, m)
 }
 
 // The source with the terms for the variables of its own terms.
@@ -126,7 +125,7 @@ pub fn source_under(
 fn source_at(
     alloc: Global,
     base: &mut Base,
-    bindings: &mut Bindings,
+    room: &mut PairRoom,
     sources: &[Source],
     i: usize,
 ) -> Result<Source, Memory>
@@ -157,7 +156,7 @@ fn source_at(
                 other,
             };
             let members = base.members.as_slice();
-            let terms = conclusion_terms(alloc, &mut base.bank, bindings, members, premises)?;
+            let terms = conclusion_terms(&mut base.bank, room, members, premises)?;
             let Some(source) = numbered_item(sources, from) else {
                 unreachable!();
             };
@@ -167,12 +166,8 @@ fn source_at(
     }
 }
 
-// The sources of the members, in order. The bindings are room to work in.
-fn sources_by(
-    alloc: Global,
-    base: &mut Base,
-    bindings: &mut Bindings,
-) -> Result<Vec<Source>, Memory>
+// The sources of the members, in order. `room` is room to work in.
+fn sources_by(alloc: Global, base: &mut Base, room: &mut PairRoom) -> Result<Vec<Source>, Memory>
     requires whole { IsWholeBase base.old }
     requires members { AreFirstMembers (base_of base.old) }
     ensures kept { KeepsBase base.old base.new }
@@ -181,7 +176,7 @@ fn sources_by(
 {
     let mut sources = Vec::new(alloc);
     for i in 0..base.members.len() {
-        let source = source_at(alloc, base, bindings, sources.as_slice(), i)?;
+        let source = source_at(alloc, base, room, sources.as_slice(), i)?;
         sources.push(source)?;
     }
     Ok(sources)
@@ -195,6 +190,6 @@ pub fn sources_of(alloc: Global, base: &mut Base) -> Result<Vec<Source>, Memory>
     ensures whole { OnOk result (IsWholeBase base.new) }
     ensures sources { IfOk result (λ v. AreSources base.new.bank (base_of base.old) (length base.old.members) v.items) }
 {
-    let mut bindings = Bindings::new(alloc);
-    sources_by(alloc, base, &mut bindings)
+    let mut room = PairRoom::new(alloc);
+    sources_by(alloc, base, &mut room)
 }
