@@ -40,11 +40,11 @@ impl WatchList {
         self.items.len()
     }
 
-    pub(crate) fn at(&self, place: usize) -> PackedWatch
+    pub(crate) fn at(&self, place: usize) -> &PackedWatch
         requires { place < length self.now }
-        ensures { slice_get self.now place ≡ Some result }
+        ensures { slice_get self.now place ≡ Some result.now }
     {
-        self.items[place]
+        &self.items[place]
     }
 
     pub(crate) fn push(&mut self, watch: Watch) -> Result<(), Memory>

@@ -32,10 +32,10 @@ impl WatchedValues {
         self.lists[slot(l)].len()
     }
 
-    pub(crate) fn watch_at(&self, spot: Spot) -> PackedWatch
+    pub(crate) fn watch_at(&self, spot: Spot) -> &PackedWatch
         requires slot { slot_of spot.l < length self.now.lists.items }
         requires place { spot.place < length (list_at self.now.lists.items (slot_of spot.l)) }
-        ensures { slice_get (list_at self.now.lists.items (slot_of spot.l)) spot.place ≡ Some result }
+        ensures { slice_get (list_at self.now.lists.items (slot_of spot.l)) spot.place ≡ Some result.now }
     {
         self.lists[slot(spot.l)].at(spot.place)
     }
