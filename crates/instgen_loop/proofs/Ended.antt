@@ -12,12 +12,13 @@ use Rattle.instgen_loop.specs.declared.start.Given.{Given}
 use Rattle.instgen_loop.specs.declared.state.Run.{Run}
 use Rattle.instgen_loop.specs.declared.premises.Premises.{Premises}
 use Rattle.instgen_loop.specs.declared.queue.Partners.{Partners}
+use Rattle.instgen_loop.specs.declared.task.Task.{Task}
 use Rattle.instgen_loop.specs.Clauses.{Item, entries_in}
 use Rattle.instgen_loop.specs.Deciding.{IsSomeConclusion}
-use Rattle.instgen_loop.specs.Ending.{IsAtRest}
+use Rattle.instgen_loop.specs.Ending.{IsFinished}
 use Rattle.instgen_loop.specs.Loops.{items, held_in, held_of, IsConsistent}
 use Rattle.instgen_loop.specs.Running.{entries_of, events_so_far, IsSolvedFor, Reads}
-use Rattle.instgen_loop.specs.Starting.{IsOfProblem}
+use Rattle.instgen_loop.specs.Tasks.{all_clauses}
 use Rattle.instgen_loop.specs.Tended.{AreTended, indexed_of}
 use Rattle.instgen_loop.proofs.FreshRuns.{problem_later}
 use Rattle.instgen_loop.proofs.Grown.{entries_stay}
@@ -42,21 +43,22 @@ module _ {S I C : Type 0} (old new : Run S I C) (reads : Reads old new) where
     worked = transport (λ (es : List Entry). AreWorked es old.selection.places (held_of old) (indexed_of pairs p)) (sym same) h.worked;
   })
 
-  pub rest_read : (atoms : S → ℕ) (pairs : I → List Posting) (fits : Forest → I → Type 0) (p : Partners I C) → IsConsistent atoms pairs fits old → IsConsistent atoms pairs fits new → AreTended pairs old p
-      → old.queue.items ≡ [] → length old.selection.places ≡ length (items old) → IsAtRest atoms pairs fits new p
-  rest_read atoms pairs fits p before safe tended rests whole = record {
-    safe = safe;
-    tended = tended_read pairs p (entries_stay old.entries.bank new.entries.bank reads.bank (items old) (λ x i. all_in (λ (x : Item). IsClauseOf old.entries.bank x.0) (items old) before.entries.ids x i)) tended;
-    rests = ap (λ (r : Run S I C). r.queue.items) reads.rest ∙ rests;
-    whole = ap (λ (r : Run S I C). length r.selection.places) reads.rest ∙ whole ∙ sym (ap (λ (r : Run S I C). length (items r)) reads.rest);
-  }
-
-  pub solved_read : (atoms : S → ℕ) (added : S → List (List (Signed ℕ))) (pairs : I → List Posting) (fits : Forest → I → Type 0) (cs : List TreeClause) (budget : ℕ) → IsConsistent atoms pairs fits old
-      → IsSolvedFor atoms added old cs budget → IsSolvedFor atoms added new cs budget
-  solved_read atoms added pairs fits cs budget safe (bot, v, h) = (bot, v, running_read atoms added old new reads safe.entries bot cs budget v h)
-
-  pub problem_read : (g : Given) (clauses : List TreeClause) → IsOfProblem old g clauses → IsOfProblem new g clauses
-  problem_read g clauses h = problem_later old new g clauses reads.bank (ap (λ (r : Run S I C). r.ground.abstraction.bot) reads.rest) h
+  pub finished_read : (atoms : S → ℕ) (added : S → List (List (Signed ℕ))) (pairs : I → List Posting) (fits : Forest → I → Type 0) (t : Task) (p : Partners I C) (g : Given) → IsConsistent atoms pairs fits new
+      → IsFinished atoms added pairs fits t old p g → IsFinished atoms added pairs fits t new p g
+  finished_read atoms added pairs fits t p g safe h =
+      let before = h.rest in
+      let (bot, v, k) = h.solved in
+      let same = entries_stay old.entries.bank new.entries.bank reads.bank (items old) (λ x i. all_in (λ (x : Item). IsClauseOf old.entries.bank x.0) (items old) before.safe.entries.ids x i) in
+      record {
+        rest = record {
+          safe = safe;
+          tended = tended_read pairs p same before.tended;
+          rests = ap (λ (r : Run S I C). r.queue.items) reads.rest ∙ before.rests;
+          whole = ap (λ (r : Run S I C). length r.selection.places) reads.rest ∙ before.whole ∙ sym (ap (λ (r : Run S I C). length (items r)) reads.rest);
+        };
+        solved = (bot, v, running_read atoms added old new reads before.safe.entries bot (all_clauses t) t.budget v k);
+        problem = problem_later old new g t.problem.now.clauses reads.bank (ap (λ (r : Run S I C). r.ground.abstraction.bot) reads.rest) h.problem;
+      }
 
   pub events_read : events_so_far new ≡ events_so_far old
   events_read = ap (λ (r : Run S I C). events_so_far r) reads.rest

@@ -21,7 +21,7 @@ use Rattle.inst_calculus.proofs.Membership.{◌∈◌, contains_in, in_map, in_a
 use Rattle.inst_machine.specs.Machine.{State, IsTrueIn, IsSettled}
 use Rattle.inst_machine.specs.Replay.{IsSelection}
 use Rattle.cert_format.specs.Certificate as format
-use Rattle.cert_format.specs.Printable.{IsPrintableClause, IsPrintableSaturation}
+use Rattle.cert_format.specs.Printable.{IsPrintableClause, IsPrintableProblem, IsPrintableSaturation}
 use Rattle.cert_format.specs.Validity.{IsValidSaturation}
 use Rattle.cert_format.proofs.Numbers.{in_slice_get}
 use Rattle.engine_laws.specs.Places.{ArePlacedTrue}
@@ -33,17 +33,19 @@ use Rattle.cert_values.specs.declared.certificate.Saturation.{Saturation}
 use Rattle.cert_values.specs.Values.{entry_of, saturation_of}
 use Rattle.instgen_loop.specs.declared.ending.Ending.TheVariants.{Saturated}
 use Rattle.instgen_loop.specs.declared.finish.SettledRun.{SettledRun}
+use Rattle.instgen_loop.specs.declared.task.Task.{Task}
 use Rattle.instgen_loop.specs.Endings.{IsEndingAfter}
 use Rattle.instgen_loop.specs.Logs.{Log}
 use Rattle.instgen_loop.specs.declared.start.Given.{Given}
 use Rattle.instgen_loop.specs.declared.state.Run.{Run}
 use Rattle.instgen_loop.specs.declared.queue.Partners.{Partners}
-use Rattle.instgen_loop.specs.Ending.{IsAtRest, settled_from, saturation_from}
+use Rattle.instgen_loop.specs.Ending.{IsAtRest, IsFinished, settled_from, saturation_from}
 use Rattle.instgen_loop.specs.Loops.{items, held_of}
 use Rattle.instgen_loop.specs.Outcomes.{IsSelectedRun, IsSaturatedRun}
 use Rattle.instgen_loop.specs.Refuting.{member_of}
-use Rattle.instgen_loop.specs.Running.{entries_of, state_of, event_in, IsRunning, IsSolvedFor, saturation_at, events_so_far}
+use Rattle.instgen_loop.specs.Running.{entries_of, state_of, event_in, IsRunning, saturation_at, events_so_far}
 use Rattle.instgen_loop.specs.Starting.{IsOfProblem}
+use Rattle.instgen_loop.specs.Tasks.{all_clauses}
 use Rattle.instgen_loop.proofs.PrintedEntries.{entries_printable}
 use Rattle.engine_laws.proofs.Printed.{all_formed, axiom_printable}
 use Rattle.instgen_loop.proofs.Refuting.{whole_items}
@@ -139,11 +141,12 @@ pub own_constant : {S I C : Type 0} (atoms : S → ℕ) (added : S → List (Lis
     → IsRunning atoms added r constant cs budget v true → IsRunning atoms added r r.ground.abstraction.bot cs budget v true
 own_constant atoms added r constant cs budget v h = transport (λ x. IsRunning atoms added r x cs budget v true) (sym h.linked.constant) h
 
-pub saturated_outcome : {S I C : Type 0} (atoms : S → ℕ) (added : S → List (List (Signed ℕ))) (pairs : I → List Posting) (fits : Forest → I → Type 0) (r : Run S I C) (p : Partners I C) (g : Given) (clauses : List TreeClause) (names : List (List ℕ))
-    (budget : ℕ) → IsAtRest atoms pairs fits r p → IsSolvedFor atoms added r (with_axioms clauses) budget → IsOfProblem r g clauses → All IsPrintableClause clauses → length names ≡ length clauses
-    → All (λ n. IsTrue (is_readable_name n)) names → All (IsDecided (entries_of r) r.selection.places []) (held_of r) → (state : SettledRun) (log : Log) → state ≡ settled_from r g → log ≡ r.log
-    → IsEndingAfter clauses names budget (Saturated state) log
-saturated_outcome atoms added pairs fits r p g clauses names budget rest (constant, v, h) problem printable count readable decided state log e q =
-    let run : IsEndingAfter clauses names budget (Saturated (settled_from r g)) r.log =
-    (h.logged, saturated_run atoms added pairs fits r p g clauses names budget v rest (own_constant atoms added r constant (with_axioms clauses) budget v h) problem printable count readable decided) in
-    transport (λ (x : SettledRun). IsEndingAfter clauses names budget (Saturated x) log) (sym e) (transport (IsEndingAfter clauses names budget (Saturated (settled_from r g))) (sym q) run)
+pub saturated_outcome : {S I C : Type 0} (atoms : S → ℕ) (added : S → List (List (Signed ℕ))) (pairs : I → List Posting) (fits : Forest → I → Type 0) (t : Task) (r : Run S I C) (p : Partners I C) (g : Given)
+    → IsFinished atoms added pairs fits t r p g → IsPrintableProblem t.problem.now → All (IsDecided (entries_of r) r.selection.places []) (held_of r) → (state : SettledRun) (log : Log) → state ≡ settled_from r g → log ≡ r.log
+    → IsEndingAfter t (Saturated state) log
+saturated_outcome atoms added pairs fits t r p g finished printable decided state log e q =
+    let clauses = t.problem.now.clauses in
+    let (constant, v, h) = finished.solved in
+    let run : IsEndingAfter t (Saturated (settled_from r g)) r.log =
+    (h.logged, saturated_run atoms added pairs fits r p g clauses t.problem.now.names t.budget v finished.rest (own_constant atoms added r constant (all_clauses t) t.budget v h) finished.problem printable.clauses printable.named printable.readable decided) in
+    transport (λ (x : SettledRun). IsEndingAfter t (Saturated x) log) (sym e) (transport (IsEndingAfter t (Saturated (settled_from r g))) (sym q) run)

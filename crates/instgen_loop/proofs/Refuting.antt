@@ -1,11 +1,10 @@
 -- A run whose abstractions are refuted leaves what a refutation is made of, and its ground lines.
 use Rattle.std.proofs.Common.{◌≡◌, ℕ, List, [], ◌∷◌, ◌++◌, inl, inr, refl, sym, ap, ap₂, ◌∙◌, subst as transport, map, length, All, Contains, Some}
-use Rattle.std.specs.Prelude.{IsTrue, option_map}
+use Rattle.std.specs.Prelude.{option_map}
 use Rattle.inst_logic.specs.declared.symbol.Sym.{Sym}
 use Rattle.inst_logic.specs.declared.signed.Signed.{Signed}
 use Rattle.inst_logic.specs.Clauses.{TreeClause, IsCanonical}
 use Rattle.inst_logic.specs.Derivations.{at_number}
-use Rattle.inst_logic.specs.Printing.{is_readable_name}
 use Rattle.inst_logic.specs.Tree.{Tree}
 use Rattle.inst_logic.specs.WellFormed.{IsAtom, IsTerm}
 use Rattle.inst_calculus.specs.Abstraction.{AreAbstracted}
@@ -23,7 +22,7 @@ use Rattle.inst_machine.proofs.MadeRuns.{records_are_right}
 use Rattle.inst_machine.proofs.Origins.{entries_are_given}
 use Rattle.prop_logic.specs.declared.literal.Step.{Step as NumberedStep}
 use Rattle.prop_logic.specs.Solving.{Refutes}
-use Rattle.cert_format.specs.Printable.{IsPrintableClause}
+use Rattle.cert_format.specs.Printable.{IsPrintableClause, IsPrintableProblem}
 use Rattle.engine_laws.specs.GroundLines.{ground_lines}
 use Rattle.engine_laws.proofs.Printed.{all_formed, axiom_printable}
 use Rattle.term_bank.specs.Forest.{Forest, AreFormed, Extends, IsClauseOf, clause_at, tree_at}
@@ -46,6 +45,7 @@ use Rattle.instgen_loop.specs.Logs.{Log}
 use Rattle.instgen_loop.specs.declared.refuted.RefutedRun.{RefutedRun}
 use Rattle.instgen_loop.specs.declared.start.Given.{Given}
 use Rattle.instgen_loop.specs.declared.state.Run.{Run}
+use Rattle.instgen_loop.specs.declared.task.Task.{Task}
 use Rattle.instgen_loop.specs.Clauses.{Item, AreEntries, entries_in, clauses_in}
 use Rattle.instgen_loop.specs.Endings.{IsRefuted, IsEndingAfter}
 use Rattle.instgen_loop.specs.Grounds.{IsUsed}
@@ -55,6 +55,7 @@ use Rattle.instgen_loop.specs.Records.{IsConcluded, AreConcluded, AreRecordsOf}
 use Rattle.instgen_loop.specs.Refuting.{member_of, refuted_from}
 use Rattle.instgen_loop.specs.Running.{event_in, IsEventOf, state_of, IsRunning, IsRunningFor, events_so_far}
 use Rattle.instgen_loop.specs.Starting.{IsOfProblem}
+use Rattle.instgen_loop.specs.Tasks.{all_clauses}
 use Rattle.instgen_loop.proofs.FirstEntries.{given_grown}
 use Rattle.instgen_loop.proofs.Grown.{clauses_kept, entries_kept, entries_stay}
 use Rattle.instgen_loop.proofs.LineLaws.{lines_later, line_in_later}
@@ -69,13 +70,12 @@ whole_items f es h = in_all (λ (m : Member). IsWholeClause f m.clause) (map mem
       atoms = all_in (λ (x : Item). All (λ l. IsAtom (tree_at f l.atom)) x.0) es h.atoms e j;
     }))
 
-pub refuted_ending : {S I C : Type 0} (atoms : S → ℕ) (added : S → List (List (Signed ℕ))) (pairs : I → List Posting) (fits : Forest → I → Type 0) (r : Run S I C) (g : Given) (clauses : List TreeClause) (names : List (List ℕ))
-    (budget : ℕ) (steps : List NumberedStep) → IsConsistent atoms pairs fits r → IsRunningFor atoms added r (with_axioms clauses) budget → Refutes (atoms r.ground.solver) (added r.ground.solver) [] [] steps
-    → IsOfProblem r g clauses → All IsPrintableClause clauses → length names ≡ length clauses → All (λ n. IsTrue (is_readable_name n)) names → (x : RefutedRun) (log : Log) → x ≡ refuted_from r g steps → log ≡ r.log
-    → IsEndingAfter clauses names budget (Refuted x) log
-refuted_ending atoms added pairs fits r g clauses names budget steps safe (constant, v, b, k) refutes problem printable count readable x log e q =
-    let h : IsRunning atoms added r r.ground.abstraction.bot (with_axioms clauses) budget v b = transport (λ y. IsRunning atoms added r y (with_axioms clauses) budget v b) (sym k.linked.constant) k in
-    let left : IsRefuted clauses names (refuted_from r g steps) (events_so_far r) = record {
+pub refuted_ending : {S I C : Type 0} (atoms : S → ℕ) (added : S → List (List (Signed ℕ))) (pairs : I → List Posting) (fits : Forest → I → Type 0) (t : Task) (r : Run S I C) (g : Given) (steps : List NumberedStep)
+    → IsConsistent atoms pairs fits r → IsRunningFor atoms added r (all_clauses t) t.budget → Refutes (atoms r.ground.solver) (added r.ground.solver) [] [] steps → IsOfProblem r g t.problem.now.clauses → IsPrintableProblem t.problem.now
+    → (x : RefutedRun) (log : Log) → x ≡ refuted_from r g steps → log ≡ r.log → IsEndingAfter t (Refuted x) log
+refuted_ending atoms added pairs fits t r g steps safe (constant, v, b, k) refutes problem printable x log e q =
+    let h : IsRunning atoms added r r.ground.abstraction.bot (all_clauses t) t.budget v b = transport (λ y. IsRunning atoms added r y (all_clauses t) t.budget v b) (sym k.linked.constant) k in
+    let left : IsRefuted t.problem.now.clauses t.problem.now.names (refuted_from r g steps) (events_so_far r) = record {
       state = state_of r v b;
       replays = h.replays;
       members = refl;
@@ -92,11 +92,11 @@ refuted_ending atoms added pairs fits r g clauses names budget steps safe (const
       refutes =
           transport (λ n. Refutes n r.ground.literals [] [] steps) h.linked.count
           (transport (λ cs. Refutes (atoms r.ground.solver) cs [] [] steps) h.linked.given refutes);
-      printable = printable;
-      named = count;
-      readable = readable;
+      printable = printable.clauses;
+      named = printable.named;
+      readable = printable.readable;
     } in
-    transport (λ (y : RefutedRun). IsEndingAfter clauses names budget (Refuted y) log) (sym e) (transport (IsEndingAfter clauses names budget (Refuted (refuted_from r g steps))) (sym q) (h.logged, left))
+    transport (λ (y : RefutedRun). IsEndingAfter t (Refuted y) log) (sym e) (transport (IsEndingAfter t (Refuted (refuted_from r g steps))) (sym q) (h.logged, left))
 
 -- As the bank grows
 

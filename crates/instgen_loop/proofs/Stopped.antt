@@ -24,6 +24,7 @@ use Rattle.term_index.specs.Pairs.{Posting}
 use Rattle.cert_values.specs.declared.certificate.Saturation.{Saturation}
 use Rattle.instgen_loop.specs.declared.ending.Ending.TheVariants.{OutOfBudget}
 use Rattle.instgen_loop.specs.declared.finish.SettledRun.{SettledRun}
+use Rattle.instgen_loop.specs.declared.task.Task.{Task}
 use Rattle.instgen_loop.specs.Endings.{IsEndingAfter}
 use Rattle.instgen_loop.specs.Logs.{Log}
 use Rattle.instgen_loop.specs.declared.start.Given.{Given}
@@ -31,11 +32,12 @@ use Rattle.instgen_loop.specs.declared.state.Run.{Run}
 use Rattle.instgen_loop.specs.declared.premises.Premises.{Premises}
 use Rattle.instgen_loop.specs.declared.queue.Partners.{Partners}
 use Rattle.instgen_loop.specs.Deciding.{IsOpenHeld, IsLeastOpen}
-use Rattle.instgen_loop.specs.Ending.{IsAtRest, settled_from, saturation_from}
+use Rattle.instgen_loop.specs.Ending.{IsAtRest, IsFinished, settled_from, saturation_from}
 use Rattle.instgen_loop.specs.Loops.{held_in, held_of}
 use Rattle.instgen_loop.specs.Outcomes.{IsStoppedRun}
-use Rattle.instgen_loop.specs.Running.{entries_of, state_of, event_in, IsRunning, IsSolvedFor, events_so_far}
+use Rattle.instgen_loop.specs.Running.{entries_of, state_of, event_in, IsRunning, events_so_far}
 use Rattle.instgen_loop.specs.Starting.{IsOfProblem}
+use Rattle.instgen_loop.specs.Tasks.{all_clauses}
 use Rattle.instgen_loop.specs.Tended.{indexed_of}
 use Rattle.instgen_loop.proofs.Endings.{same, long, selected_run, own_constant}
 use Rattle.instgen_loop.proofs.Saturated.{all_indexed}
@@ -170,14 +172,16 @@ module _ {S I C : Type 0} (atoms : S → ℕ) (added : S → List (List (Signed 
 
 -- from what the cycle leaves
 
-module _ {S I C : Type 0} (atoms : S → ℕ) (added : S → List (List (Signed ℕ))) (pairs : I → List Posting) (fits : Forest → I → Type 0) (r : Run S I C) (p : Partners I C) (g : Given) (clauses : List TreeClause) (names : List (List ℕ))
-    (budget wanted : ℕ) (rest : IsAtRest atoms pairs fits r p) (problem : IsOfProblem r g clauses) (open_ones : IsLeastOpen r wanted) where
-  pub has_left : IsSolvedFor atoms added r (with_axioms clauses) budget → ¬ (r.left ≡ None)
-  has_left (constant, v, h) = some_left atoms added pairs fits r p g clauses names budget v rest (own_constant atoms added r constant (with_axioms clauses) budget v h) problem wanted open_ones
+module _ {S I C : Type 0} (atoms : S → ℕ) (added : S → List (List (Signed ℕ))) (pairs : I → List Posting) (fits : Forest → I → Type 0) (t : Task) (r : Run S I C) (p : Partners I C) (g : Given)
+    (wanted : ℕ) (finished : IsFinished atoms added pairs fits t r p g) (open_ones : IsLeastOpen r wanted) where
+  pub has_left : ¬ (r.left ≡ None)
+  has_left =
+      let (constant, v, h) = finished.solved in
+      some_left atoms added pairs fits r p g t.problem.now.clauses t.problem.now.names t.budget v finished.rest (own_constant atoms added r constant (all_clauses t) t.budget v h) finished.problem wanted open_ones
 
-  pub stopped_outcome : IsSolvedFor atoms added r (with_axioms clauses) budget → (left : ℕ) → r.left ≡ Some left → (state : SettledRun) (log : Log) → state ≡ settled_from r g → log ≡ r.log
-      → IsEndingAfter clauses names budget (OutOfBudget left wanted state) log
-  stopped_outcome (constant, v, h) left l state log e q =
-      let run : IsEndingAfter clauses names budget (OutOfBudget left wanted (settled_from r g)) r.log =
-      (h.logged, stopped_run atoms added pairs fits r p g clauses names budget v rest (own_constant atoms added r constant (with_axioms clauses) budget v h) problem wanted open_ones left l) in
-      transport (λ (x : SettledRun). IsEndingAfter clauses names budget (OutOfBudget left wanted x) log) (sym e) (transport (IsEndingAfter clauses names budget (OutOfBudget left wanted (settled_from r g))) (sym q) run)
+  pub stopped_outcome : (left : ℕ) → r.left ≡ Some left → (state : SettledRun) (log : Log) → state ≡ settled_from r g → log ≡ r.log → IsEndingAfter t (OutOfBudget left wanted state) log
+  stopped_outcome left l state log e q =
+      let (constant, v, h) = finished.solved in
+      let run : IsEndingAfter t (OutOfBudget left wanted (settled_from r g)) r.log =
+      (h.logged, stopped_run atoms added pairs fits r p g t.problem.now.clauses t.problem.now.names t.budget v finished.rest (own_constant atoms added r constant (all_clauses t) t.budget v h) finished.problem wanted open_ones left l) in
+      transport (λ (x : SettledRun). IsEndingAfter t (OutOfBudget left wanted x) log) (sym e) (transport (IsEndingAfter t (OutOfBudget left wanted (settled_from r g))) (sym q) run)

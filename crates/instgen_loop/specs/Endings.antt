@@ -14,6 +14,7 @@ use Rattle.instgen_loop.specs.declared.event.Event.{Event}
 use Rattle.instgen_loop.specs.declared.ending.Ending.{Ending}
 use Rattle.instgen_loop.specs.declared.ending.Ending.TheVariants.{Refuted, Saturated, OutOfBudget}
 use Rattle.instgen_loop.specs.declared.refuted.RefutedRun.{RefutedRun}
+use Rattle.instgen_loop.specs.declared.task.Task.{Task}
 use Rattle.instgen_loop.specs.Clauses.{AreEntries, Item, entries_in, clauses_in}
 use Rattle.instgen_loop.specs.Ending.{saturation_from}
 use Rattle.instgen_loop.specs.Grounds.{IsUsed}
@@ -45,10 +46,10 @@ pub record IsRefuted (clauses : List TreeClause) (names : List (List ℕ)) (r : 
   pub readable : All (λ n. IsTrue (is_readable_name n)) names
 
 -- the outcome that is made of the ending holds what it says
-abbrev pub IsEnding : List TreeClause → List (List ℕ) → ℕ → Ending → List Event → Type 0
-IsEnding clauses names budget (Refuted r) journal = IsRefuted clauses names r journal
-IsEnding clauses names budget (Saturated r) journal = IsSaturatedRun clauses names (saturation_from names r) journal
-IsEnding clauses names budget (OutOfBudget left wanted r) journal = IsStoppedRun clauses names budget left wanted (saturation_from names r) journal
+abbrev pub IsEnding : Task → Ending → List Event → Type 0
+IsEnding t (Refuted r) journal = IsRefuted t.problem.now.clauses t.problem.now.names r journal
+IsEnding t (Saturated r) journal = IsSaturatedRun t.problem.now.clauses t.problem.now.names (saturation_from t.problem.now.names r) journal
+IsEnding t (OutOfBudget left wanted r) journal = IsStoppedRun t.problem.now.clauses t.problem.now.names t.budget left wanted (saturation_from t.problem.now.names r) journal
 
 -- what the ending leaves of the run's entries
 abbrev pub entries_left : Ending → List Item
@@ -57,5 +58,5 @@ entries_left (Saturated r) = r.remains.clauses.entries
 entries_left (OutOfBudget left wanted r) = r.remains.clauses.entries
 
 -- the log is of these entries, and the ending is one after the events that they tell
-abbrev pub IsEndingAfter : List TreeClause → List (List ℕ) → ℕ → Ending → Log → Type 0
-IsEndingAfter clauses names budget e l = IsLogOf l (entries_left e) × IsEnding clauses names budget e (events_of l (entries_left e))
+abbrev pub IsEndingAfter : Task → Ending → Log → Type 0
+IsEndingAfter t e l = IsLogOf l (entries_left e) × IsEnding t e (events_of l (entries_left e))

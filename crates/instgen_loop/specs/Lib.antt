@@ -9,6 +9,7 @@ pub mod Tended
 pub mod Solves
 pub mod FirstEntries
 pub mod Outcomes
+pub mod Tasks
 pub mod Choosing
 pub mod Settling
 pub mod Starting

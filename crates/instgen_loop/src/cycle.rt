@@ -3,18 +3,19 @@ ghost use Rattle.std.specs.Prelude.{◌≡◌, [], None, false, length, IfOk, On
 ghost use Rattle.inst_logic.specs.declared.symbol.Sym.{Sym};
 ghost use Rattle.term_bank.specs.Forest.{Extends};
 ghost use Rattle.inst_logic.specs.WellFormed.{AreFormedClauses};
-ghost use Rattle.inst_calculus.specs.Axioms.{with_axioms};
 ghost use Rattle.prop_logic.specs.Solving.{Refutes};
 ghost use Rattle.instgen_loop.specs.Loops.{IsConsistent, items, ArePartners};
 ghost use Rattle.instgen_loop.specs.Selections.{AreUsers};
 ghost use Rattle.instgen_loop.specs.Tended.{AreTended};
+ghost use Rattle.instgen_loop.specs.Tasks.{all_clauses};
 ghost use Rattle.instgen_loop.specs.Stops.{IfFinished, IfRefuted, IsNotGivenUp};
 ghost use Rattle.instgen_loop.specs.Running.{IsRunningFor, IsRunningWith, IsSolvedFor};
 
 use crate::queue::{Partners, work_queue};
 use crate::settle::settle;
 use crate::state::Run;
-use inst_logic::{Memory, Problem};
+use crate::task::Task;
+use inst_logic::Memory;
 use prop_logic::{Derivation, Solver};
 use std::alloc::Global;
 use term_index::PartnerIndex;
@@ -56,24 +57,23 @@ pub fn cycle<S: Solver, I: PartnerIndex>(
     alloc: Global,
     run: &mut Run<S, I>,
     partners: &mut Partners<I>,
-    _p: &Problem,
-    _budget: u64,
+    _task: &Task<'_>,
     most_entries: Option<usize>,
 ) -> Result<Stop, Memory>
     requires safe { IsConsistent S.atoms I.pairs I.fits run.old }
     requires partners { ArePartners I.pairs I.fits run.old partners.old }
     requires tended { AreTended I.pairs run.old partners.old }
     requires users { AreUsers run.old.ground.literals run.old.selection }
-    requires running { IsRunningFor S.atoms S.added run.old (with_axioms _p.now.clauses) _budget }
-    requires formed { AreFormedClauses (with_axioms _p.now.clauses) }
+    requires running { IsRunningFor S.atoms S.added run.old (all_clauses _task.now) _task.now.budget }
+    requires formed { AreFormedClauses (all_clauses _task.now) }
     ensures safe { OnOk result (IsConsistent S.atoms I.pairs I.fits run.new) }
     ensures partners { OnOk result (ArePartners I.pairs I.fits run.new partners.new) }
     ensures tended { OnOk result (AreTended I.pairs run.new partners.new) }
     ensures users { OnOk result (AreUsers run.new.ground.literals run.new.selection) }
-    ensures running { OnOk result (IsRunningFor S.atoms S.added run.new (with_axioms _p.now.clauses) _budget) }
+    ensures running { OnOk result (IsRunningFor S.atoms S.added run.new (all_clauses _task.now) _task.now.budget) }
     ensures bank { OnOk result (Extends run.old.entries.bank run.new.entries.bank) }
-    ensures kept { OnOk result ((bot : Sym) → IsRunningWith S.atoms S.added run.old bot (with_axioms _p.now.clauses) _budget → IsRunningWith S.atoms S.added run.new bot (with_axioms _p.now.clauses) _budget) }
-    ensures rests { IfOk result (λ s. IfFinished s ((run.new.queue.items ≡ []) × (length run.new.selection.places ≡ length (items run.new)) × IsSolvedFor S.atoms S.added run.new (with_axioms _p.now.clauses) _budget)) }
+    ensures kept { OnOk result ((bot : Sym) → IsRunningWith S.atoms S.added run.old bot (all_clauses _task.now) _task.now.budget → IsRunningWith S.atoms S.added run.new bot (all_clauses _task.now) _task.now.budget) }
+    ensures rests { IfOk result (λ s. IfFinished s ((run.new.queue.items ≡ []) × (length run.new.selection.places ≡ length (items run.new)) × IsSolvedFor S.atoms S.added run.new (all_clauses _task.now) _task.now.budget)) }
     ensures refuted { IfOk result (λ s. IfRefuted s (λ d. Refutes (S.atoms run.new.ground.solver) (S.added run.new.ground.solver) [] [] d)) }
     ensures unbounded { most_entries ≡ None → IfOk result IsNotGivenUp }
 {

@@ -2,7 +2,8 @@
 ghost use Rattle.std.specs.Prelude.{◌≡◌, [], IfOk};
 ghost use Rattle.instgen_loop.specs.Endings.{IsEnding, IsEndingAfter, entries_left};
 ghost use Rattle.instgen_loop.specs.Marks.{IsLogOf, events_of};
-ghost use Rattle.instgen_loop.specs.Outcomes.{IsOutcome, journal_of};
+ghost use Rattle.instgen_loop.specs.Outcomes.{journal_of};
+ghost use Rattle.instgen_loop.specs.Tasks.{IsOutcomeFor};
 
 use crate::event::Journal;
 use crate::event_log::EventLog;
@@ -10,8 +11,9 @@ use crate::finish::{SettledRun, saturation_of};
 use crate::origin::Origins;
 use crate::outcome::Outcome;
 use crate::refuted::{RefutedRun, refutation_of};
+use crate::task::Task;
 use cert_values::{Refutation, Saturation};
-use inst_logic::{Memory, Problem};
+use inst_logic::Memory;
 use prop_logic::Solver;
 use std::alloc::Global;
 
@@ -49,25 +51,24 @@ fn events_before(alloc: Global, ending: &Ending, log: &EventLog) -> Result<Journ
 // The outcome that ends so after these events.
 fn outcome_after<S: Solver>(
     alloc: Global,
-    p: &Problem,
+    task: &Task<'_>,
     ending: Ending,
     last: S,
     journal: Journal,
-    _budget: u64,
 ) -> Result<Outcome, Memory>
-    requires ending { IsEnding p.now.clauses p.now.names _budget ending journal }
+    requires ending { IsEnding task.now ending journal }
     requires atoms { S.atoms last ≡ 0 }
     requires added { S.added last ≡ [] }
-    ensures outcome { IfOk result (IsOutcome p.now.clauses p.now.names _budget) }
+    ensures outcome { IfOk result (IsOutcomeFor task.now) }
     ensures journal { IfOk result (λ o. journal_of o ≡ journal) }
 {
     match ending {
         Ending::Refuted(run) => {
-            let cert = refutation_of(alloc, p, run, last, &journal)?;
+            let cert = refutation_of(alloc, task.problem, run, last, &journal)?;
             Ok(Outcome::Refuted { cert, journal })
         }
         Ending::Saturated(run) => {
-            let cert = saturation_of(alloc, p, run)?;
+            let cert = saturation_of(alloc, task.problem, run)?;
             Ok(Outcome::Saturated { cert, journal })
         }
         Ending::OutOfBudget {
@@ -75,7 +76,7 @@ fn outcome_after<S: Solver>(
             wanted,
             state,
         } => {
-            let state = saturation_of(alloc, p, state)?;
+            let state = saturation_of(alloc, task.problem, state)?;
             Ok(Outcome::OutOfBudget {
                 left,
                 wanted,
@@ -89,20 +90,19 @@ fn outcome_after<S: Solver>(
 /// The outcome of a run with this log that ends so. The fresh solver serves a refutation alone.
 pub fn outcome_of<S: Solver>(
     alloc: Global,
-    p: &Problem,
+    task: &Task<'_>,
     ending: Ending,
     last: S,
     log: &EventLog,
-    budget: u64,
 ) -> Result<Outcome, Memory>
-    requires ending { IsEndingAfter p.now.clauses p.now.names budget ending log.now }
+    requires ending { IsEndingAfter task.now ending log.now }
     requires atoms { S.atoms last ≡ 0 }
     requires added { S.added last ≡ [] }
-    ensures outcome { IfOk result (IsOutcome p.now.clauses p.now.names budget) }
+    ensures outcome { IfOk result (IsOutcomeFor task.now) }
     ensures journal { IfOk result (λ o. journal_of o ≡ events_of log.now (entries_left ending)) }
 {
     match events_before(alloc, &ending, log) {
-        Ok(journal) => outcome_after(alloc, p, ending, last, journal, budget),
+        Ok(journal) => outcome_after(alloc, task, ending, last, journal),
         Err(Memory) => Err(Memory),
     }
 }

@@ -4,7 +4,7 @@ ghost use Rattle.inst_logic.specs.declared.signed.Signed.{Signed};
 ghost use Rattle.inst_logic.specs.Clauses.{TreeClause, IsCanonical};
 ghost use Rattle.inst_calculus.specs.Saturation.{IsCovered};
 ghost use Rattle.term_bank.specs.Forest.{clause_at, IsClauseOf};
-ghost use Rattle.instgen_loop.specs.Clauses.{AreEntries, AreFirsts, IsEntry, IsUnit, IsNoUnit, IsPast, IsShorterPart, HasShorterPart, AreNoParts, Item, clauses_in};
+ghost use Rattle.instgen_loop.specs.Clauses.{AreEntries, AreFirsts, IsEntry, IsUnit, IsNoUnit, HasShorterPart, IsSought, HasSought, IsPastSought, AreUnsought, Item, clauses_in};
 ghost use Rattle.cert_values.specs.declared.member.Origin.{Origin};
 
 use crate::origin::{Origins, PackedOrigin};
@@ -127,17 +127,23 @@ pub fn push_entry<I: PartnerIndex>(
     Ok(())
 }
 
-// Whether entry `k` has fewer literals than `len`, and an instance within the clause.
+// What is sought among the entries: one with fewer literals than `len`, and an instance within the clause.
+#[derive(Clone, Copy)]
+struct Sought<'a> {
+    clause: &'a IdClause,
+    len: usize,
+}
+
+// Whether entry `k` is sought.
 fn is_shorter_part<I: PartnerIndex>(
     alloc: Global,
     entries: &Entries<I>,
     k: usize,
-    d: &IdClause,
-    len: usize,
+    sought: &Sought<'_>,
 ) -> Result<bool, Memory>
     requires entries { AreEntries entries.now.bank entries.now.clauses.entries }
-    requires clause { IsClauseOf entries.now.bank d.now }
-    ensures { IfOk result (λ r. IsTrue r ↔ IsShorterPart entries.now.bank entries.now.clauses.entries d.now len k) }
+    requires clause { IsClauseOf entries.now.bank sought.now.clause.now }
+    ensures { IfOk result (λ r. IsTrue r ↔ IsSought entries.now sought.now k) }
 {
     if k == 0 {
         return Ok(false);
@@ -145,8 +151,8 @@ fn is_shorter_part<I: PartnerIndex>(
     match entries.clauses.get_index(k - 1) {
         None => Ok(false),
         Some((e, _)) => {
-            if e.len() < len {
-                subsumes(alloc, &entries.bank, e, d)
+            if e.len() < sought.len {
+                subsumes(alloc, &entries.bank, e, sought.clause)
             } else {
                 Ok(false)
             }
@@ -154,48 +160,46 @@ fn is_shorter_part<I: PartnerIndex>(
     }
 }
 
-// Whether the entry is such a part, where those that were tested before are none: they are not tested again.
+// Whether entry `k` is sought, where those that were tested before are none: they are not tested again.
 fn is_untested_part<I: PartnerIndex>(
     alloc: Global,
     entries: &Entries<I>,
     k: usize,
-    d: &IdClause,
-    len: usize,
+    sought: &Sought<'_>,
     tested: &mut Tested,
 ) -> Result<bool, Memory>
     requires entries { AreEntries entries.now.bank entries.now.clauses.entries }
-    requires clause { IsClauseOf entries.now.bank d.now }
-    requires tested { AreNoParts entries.now.bank entries.now.clauses.entries d.now len tested.old }
-    ensures answer { IfOk result (λ r. IsTrue r ↔ IsShorterPart entries.now.bank entries.now.clauses.entries d.now len k) }
-    ensures tested { IfOk result (λ r. r ≡ false → AreNoParts entries.now.bank entries.now.clauses.entries d.now len tested.new) }
+    requires clause { IsClauseOf entries.now.bank sought.now.clause.now }
+    requires tested { AreUnsought entries.now sought.now tested.old }
+    ensures answer { IfOk result (λ r. IsTrue r ↔ IsSought entries.now sought.now k) }
+    ensures tested { IfOk result (λ r. r ≡ false → AreUnsought entries.now sought.now tested.new) }
 {
     if tested.contains(k) {
         return Ok(false);
     }
-    if is_shorter_part(alloc, entries, k, d, len)? {
+    if is_shorter_part(alloc, entries, k, sought)? {
         return Ok(true);
     }
     tested.insert(k)?;
     Ok(false)
 }
 
-// Whether some entry of the index whose first atom is more general than the literal's is so.
+// Whether some entry of the index whose first atom is more general than the literal's is sought.
 fn has_shorter_at<I: PartnerIndex>(
     alloc: Global,
     entries: &Entries<I>,
     l: IdLiteral,
-    d: &IdClause,
-    len: usize,
+    sought: &Sought<'_>,
     tested: &mut Tested,
 ) -> Result<bool, Memory>
     requires entries { AreEntries entries.now.bank entries.now.clauses.entries }
-    requires clause { IsClauseOf entries.now.bank d.now }
+    requires clause { IsClauseOf entries.now.bank sought.now.clause.now }
     requires atom { l.atom < length entries.now.bank.trees }
     requires fits { I.fits entries.now.bank entries.now.first }
-    requires tested { AreNoParts entries.now.bank entries.now.clauses.entries d.now len tested.old }
-    ensures yes { IfOk result (λ r. r ≡ true → HasShorterPart entries.now.bank entries.now.clauses.entries d.now len) }
-    ensures no { IfOk result (λ r. r ≡ false → IsPast entries.now.bank (I.pairs entries.now.first) entries.now.clauses.entries d.now len l) }
-    ensures tested { IfOk result (λ r. r ≡ false → AreNoParts entries.now.bank entries.now.clauses.entries d.now len tested.new) }
+    requires tested { AreUnsought entries.now sought.now tested.old }
+    ensures yes { IfOk result (λ r. r ≡ true → HasSought entries.now sought.now) }
+    ensures no { IfOk result (λ r. r ≡ false → IsPastSought I.pairs entries.now sought.now l) }
+    ensures tested { IfOk result (λ r. r ≡ false → AreUnsought entries.now sought.now tested.new) }
 {
     let mut cursor = entries
         .first
@@ -204,7 +208,7 @@ fn has_shorter_at<I: PartnerIndex>(
         match entries.first.next(&mut cursor)? {
             None => return Ok(false),
             Some(k) => {
-                if is_untested_part(alloc, entries, k, d, len, tested)? {
+                if is_untested_part(alloc, entries, k, sought, tested)? {
                     return Ok(true);
                 }
             }
@@ -212,24 +216,23 @@ fn has_shorter_at<I: PartnerIndex>(
     }
 }
 
-// Whether some entry of the index is so. The first literals of many entries are more general than several literals of a wide
+// Whether some entry of the index is sought. The first literals of many entries are more general than several literals of a wide
 // clause: each entry is tested once.
 fn has_shorter_first<I: PartnerIndex>(
     alloc: Global,
     entries: &Entries<I>,
-    d: &IdClause,
-    len: usize,
+    sought: &Sought<'_>,
     tested: &mut Tested,
 ) -> Result<bool, Memory>
     requires entries { AreEntries entries.now.bank entries.now.clauses.entries }
-    requires clause { IsClauseOf entries.now.bank d.now }
+    requires clause { IsClauseOf entries.now.bank sought.now.clause.now }
     requires fits { I.fits entries.now.bank entries.now.first }
-    ensures yes { IfOk result (λ r. r ≡ true → HasShorterPart entries.now.bank entries.now.clauses.entries d.now len) }
-    ensures no { IfOk result (λ r. r ≡ false → All (IsPast entries.now.bank (I.pairs entries.now.first) entries.now.clauses.entries d.now len) d.now) }
+    ensures yes { IfOk result (λ r. r ≡ true → HasSought entries.now sought.now) }
+    ensures no { IfOk result (λ r. r ≡ false → All (IsPastSought I.pairs entries.now sought.now) sought.now.clause.now) }
 {
     tested.clear();
-    for l in d.as_slice() {
-        if has_shorter_at(alloc, entries, *l, d, len, tested)? {
+    for l in sought.clause.as_slice() {
+        if has_shorter_at(alloc, entries, *l, sought, tested)? {
             return Ok(true);
         }
     }
@@ -295,7 +298,8 @@ fn has_shorter<I: PartnerIndex>(
     if has_unit(entries, d, scratch)? {
         return Ok(true);
     }
-    has_shorter_first(alloc, entries, d, len, scratch.tested_entries())
+    let sought = Sought { clause: d, len };
+    has_shorter_first(alloc, entries, &sought, scratch.tested_entries())
 }
 
 /// Whether the entries cover the clause in canonical form, as an instance of a clause with so many literals: it is a tautology or

@@ -1,16 +1,10 @@
 // The end of a run at rest: a saturation, or the conclusions that the budget left open.
-ghost use Rattle.std.specs.Prelude.{◌≡◌, [], length, Some, None, All, IsTrue, IfOk, OnOk};
-ghost use Rattle.inst_logic.specs.Printing.{is_readable_name};
-ghost use Rattle.inst_calculus.specs.Axioms.{with_axioms};
-ghost use Rattle.cert_format.specs.Printable.{IsPrintableClause};
-ghost use Rattle.instgen_loop.specs.Loops.{IsConsistent, items};
-ghost use Rattle.instgen_loop.specs.Deciding.{IsDecision, IsLeastOpen};
-ghost use Rattle.instgen_loop.specs.Ending.{IsAtRest, settled_from, saturation_from};
+ghost use Rattle.std.specs.Prelude.{◌≡◌, Some, None, IfOk};
+ghost use Rattle.cert_format.specs.Printable.{IsPrintableProblem};
+ghost use Rattle.instgen_loop.specs.Ending.{IsFinished, settled_from, saturation_from};
 ghost use Rattle.instgen_loop.specs.Endings.{IsEndingAfter, entries_left};
 ghost use Rattle.instgen_loop.specs.Marks.{events_of};
-ghost use Rattle.instgen_loop.specs.Running.{IsSolvedFor, events_so_far};
-ghost use Rattle.instgen_loop.specs.Starting.{IsOfProblem};
-ghost use Rattle.instgen_loop.specs.Tended.{AreTended};
+ghost use Rattle.instgen_loop.specs.Running.{events_so_far};
 
 use crate::ending::Ending;
 use crate::hand_over::{Remains, base_of, hand_over};
@@ -19,6 +13,7 @@ use crate::queue::Partners;
 use crate::selection::Selection;
 use crate::start::Given;
 use crate::state::Run;
+use crate::task::Task;
 use cert_values::Saturation;
 use inst_logic::{Memory, Problem};
 use prop_logic::Solver;
@@ -58,28 +53,6 @@ fn settled_run<S: Solver, I: PartnerIndex>(
     SettledRun { remains, selection }
 }
 
-// What the saturation is made of that a run gives of which nothing that was held back is open.
-fn saturated_ending<S: Solver, I: PartnerIndex>(
-    alloc: Global,
-    _p: &Problem,
-    run: &mut Run<S, I>,
-    _partners: &Partners<I>,
-    given: Given,
-    _budget: u64,
-) -> Ending
-    requires rest { IsAtRest S.atoms I.pairs I.fits run.old _partners.now }
-    requires running { IsSolvedFor S.atoms S.added run.old (with_axioms _p.now.clauses) _budget }
-    requires problem { IsOfProblem run.old given _p.now.clauses }
-    requires clauses { All IsPrintableClause _p.now.clauses }
-    requires named { length _p.now.names ≡ length _p.now.clauses }
-    requires readable { All (λ n. IsTrue (is_readable_name n)) _p.now.names }
-    requires decided { IsDecision run.old None }
-    ensures ending { IsEndingAfter _p.now.clauses _p.now.names _budget result run.new.log }
-    ensures events { events_of run.new.log (entries_left result) ≡ events_so_far run.old }
-{
-    Ending::Saturated(settled_run(alloc, run, given))
-}
-
 // What is left of a budget that is not enough.
 fn left_of<S: Solver, I: PartnerIndex>(run: &Run<S, I>) -> u64
     requires { ¬ (run.now.left ≡ None) }
@@ -91,55 +64,30 @@ fn left_of<S: Solver, I: PartnerIndex>(run: &Run<S, I>) -> u64
     }
 }
 
-// What the budget left open, of which the least has this size.
-fn stopped_ending<S: Solver, I: PartnerIndex>(
-    alloc: Global,
-    _p: &Problem,
-    run: &mut Run<S, I>,
-    _partners: &Partners<I>,
-    given: Given,
-    _budget: u64,
-    wanted: u64,
-) -> Ending
-    requires rest { IsAtRest S.atoms I.pairs I.fits run.old _partners.now }
-    requires running { IsSolvedFor S.atoms S.added run.old (with_axioms _p.now.clauses) _budget }
-    requires problem { IsOfProblem run.old given _p.now.clauses }
-    requires open { IsLeastOpen run.old wanted }
-    ensures ending { IsEndingAfter _p.now.clauses _p.now.names _budget result run.new.log }
-    ensures events { events_of run.new.log (entries_left result) ≡ events_so_far run.old }
-{
-    let left = left_of(run);
-    Ending::OutOfBudget {
-        left,
-        wanted,
-        state: settled_run(alloc, run, given),
-    }
-}
-
 /// Looks at what was held back once more, and hands the bank and the entries with their places over. Only the run's log
 /// serves for anything after.
 pub fn finish<S: Solver, I: PartnerIndex>(
     alloc: Global,
-    p: &Problem,
+    _task: &Task<'_>,
     run: &mut Run<S, I>,
-    partners: &Partners<I>,
+    _partners: &Partners<I>,
     given: Given,
-    budget: u64,
 ) -> Result<Ending, Memory>
-    requires safe { IsConsistent S.atoms I.pairs I.fits run.old }
-    requires tended { AreTended I.pairs run.old partners.now }
-    requires rests { run.old.queue.items ≡ [] }
-    requires whole { length run.old.selection.places ≡ length (items run.old) }
-    requires running { IsSolvedFor S.atoms S.added run.old (with_axioms p.now.clauses) budget }
-    requires problem { IsOfProblem run.old given p.now.clauses }
-    requires clauses { All IsPrintableClause p.now.clauses }
-    requires named { length p.now.names ≡ length p.now.clauses }
-    requires readable { All (λ n. IsTrue (is_readable_name n)) p.now.names }
-    ensures ending { IfOk result (λ e. IsEndingAfter p.now.clauses p.now.names budget e run.new.log) }
+    requires finished { IsFinished S.atoms S.added I.pairs I.fits _task.now run.old _partners.now given }
+    requires printable { IsPrintableProblem _task.now.problem.now }
+    ensures ending { IfOk result (λ e. IsEndingAfter _task.now e run.new.log) }
     ensures events { IfOk result (λ e. events_of run.new.log (entries_left e) ≡ events_so_far run.old) }
 {
     match decide(alloc, run)? {
-        None => Ok(saturated_ending(alloc, p, run, partners, given, budget)),
-        Some(wanted) => Ok(stopped_ending(alloc, p, run, partners, given, budget, wanted)),
+        None => Ok(Ending::Saturated(settled_run(alloc, run, given))),
+        Some(wanted) => {
+            let left = left_of(run);
+            let state = settled_run(alloc, run, given);
+            Ok(Ending::OutOfBudget {
+                left,
+                wanted,
+                state,
+            })
+        }
     }
 }

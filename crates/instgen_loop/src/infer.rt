@@ -231,81 +231,85 @@ fn part_of<S: Solver, I: PartnerIndex>(
     canonical(alloc, &mut run.entries.bank, &kept)
 }
 
+// A conclusion that the entries do not cover, in canonical form.
+#[derive(Drop)]
+struct UncoveredConclusion {
+    clause: IdClause,
+    at: Premises,
+    /// How many literals entry `at.from` has.
+    len: usize,
+    /// What it takes of the budget, in symbols and variables.
+    size: u64,
+}
+
 // Appends the conclusion.
 fn append_whole<S: Solver, I: PartnerIndex>(
     run: &mut Run<S, I>,
-    conclusion: IdClause,
-    at: Premises,
-    size: u64,
+    conclusion: UncoveredConclusion,
 ) -> Result<(), Memory>
     requires safe { IsConsistent S.atoms I.pairs I.fits run.old }
-    requires whole { IsWholeClause run.old.entries.bank conclusion }
-    requires canonical { IsCanonical (clause_at run.old.entries.bank conclusion) }
-    requires new { (e : Item) → Contains (items run.old) e → ¬ (e.0 ≡ conclusion) }
-    requires bounded { length conclusion ≤ run.old.entries.longest }
-    requires irreducible { IsIrreducible (clauses_in run.old.entries.bank (items run.old)) (clause_at run.old.entries.bank conclusion) }
-    requires fits { IfSome run.old.left (λ k. size ≤ k) }
+    requires whole { IsWholeClause run.old.entries.bank conclusion.clause }
+    requires canonical { IsCanonical (clause_at run.old.entries.bank conclusion.clause) }
+    requires new { (e : Item) → Contains (items run.old) e → ¬ (e.0 ≡ conclusion.clause) }
+    requires bounded { length conclusion.clause ≤ run.old.entries.longest }
+    requires irreducible { IsIrreducible (clauses_in run.old.entries.bank (items run.old)) (clause_at run.old.entries.bank conclusion.clause) }
+    requires fits { IfSome run.old.left (λ k. conclusion.size ≤ k) }
     ensures safe { OnOk result (IsConsistent S.atoms I.pairs I.fits run.new) }
-    ensures appends { OnOk result (AppendsWhole run.old run.new conclusion at size) }
+    ensures appends { OnOk result (AppendsWhole run.old run.new conclusion.clause conclusion.at conclusion.size) }
     ensures linked { OnOk result (KeepsLink S.atoms S.added run.old run.new) }
 {
-    let origin = PackedOrigin::inst(at);
-    run.left = budget_after(run.left, size);
-    append(run, conclusion, origin)
+    let origin = PackedOrigin::inst(conclusion.at);
+    run.left = budget_after(run.left, conclusion.size);
+    append(run, conclusion.clause, origin)
 }
 
 // Appends the part of the conclusion that is a lemma of the entries. It takes its own size of the budget.
 fn append_part<S: Solver, I: PartnerIndex>(
     alloc: Global,
     run: &mut Run<S, I>,
-    conclusion: &IdClause,
-    at: Premises,
+    conclusion: &UncoveredConclusion,
     lemma: Lemma,
-    _len: usize,
 ) -> Result<(), Memory>
     requires safe { IsConsistent S.atoms I.pairs I.fits run.old }
-    requires whole { IsWholeClause run.old.entries.bank conclusion.now }
-    requires reduction { IsReduction (clauses_in run.old.entries.bank (items run.old)) (clause_at run.old.entries.bank conclusion.now) lemma }
-    requires bounded { length conclusion.now ≤ run.old.entries.longest }
-    requires shorter { length conclusion.now ≤ _len }
-    requires uncovered { (c : TreeClause) → length c ≡ _len → ¬ IsCovered (clauses_in run.old.entries.bank (items run.old)) c (clause_at run.old.entries.bank conclusion.now) }
+    requires whole { IsWholeClause run.old.entries.bank conclusion.now.clause }
+    requires reduction { IsReduction (clauses_in run.old.entries.bank (items run.old)) (clause_at run.old.entries.bank conclusion.now.clause) lemma }
+    requires bounded { length conclusion.now.clause ≤ run.old.entries.longest }
+    requires shorter { length conclusion.now.clause ≤ conclusion.now.len }
+    requires uncovered { (c : TreeClause) → length c ≡ conclusion.now.len → ¬ IsCovered (clauses_in run.old.entries.bank (items run.old)) c (clause_at run.old.entries.bank conclusion.now.clause) }
     ensures safe { OnOk result (IsConsistent S.atoms I.pairs I.fits run.new) }
-    ensures appends { OnOk result (AppendsPart run.old run.new conclusion.now at) }
+    ensures appends { OnOk result (AppendsPart run.old run.new conclusion.now.clause conclusion.now.at) }
     ensures linked { OnOk result (KeepsLink S.atoms S.added run.old run.new) }
 {
-    let part = part_of(alloc, run, conclusion, &lemma.keep)?;
-    let origin = PackedOrigin::lemma(alloc, at, lemma)?;
+    let part = part_of(alloc, run, &conclusion.clause, &lemma.keep)?;
+    let origin = PackedOrigin::lemma(alloc, conclusion.at, lemma)?;
     run.left = left_after(run.left, &run.entries.bank, &part);
     append(run, part, origin)
 }
 
-// Appends the conclusion, which the entries do not cover, or a part of it that they imply.
+// Appends the conclusion, or a part of it that the entries imply.
 fn append_uncovered<S: Solver, I: PartnerIndex>(
     alloc: Global,
     run: &mut Run<S, I>,
-    conclusion: IdClause,
-    at: Premises,
-    len: usize,
-    size: u64,
+    conclusion: UncoveredConclusion,
 ) -> Result<(), Memory>
     requires safe { IsConsistent S.atoms I.pairs I.fits run.old }
-    requires whole { IsWholeClause run.old.entries.bank conclusion }
-    requires canonical { IsCanonical (clause_at run.old.entries.bank conclusion) }
-    requires new { (e : Item) → Contains (items run.old) e → ¬ (e.0 ≡ conclusion) }
-    requires uncovered { (c : TreeClause) → length c ≡ len → ¬ IsCovered (clauses_in run.old.entries.bank (items run.old)) c (clause_at run.old.entries.bank conclusion) }
-    requires shorter { length conclusion ≤ len }
-    requires premise { len ≤ run.old.entries.longest }
-    requires fits { IfSome run.old.left (λ k. size ≤ k) }
+    requires whole { IsWholeClause run.old.entries.bank conclusion.clause }
+    requires canonical { IsCanonical (clause_at run.old.entries.bank conclusion.clause) }
+    requires new { (e : Item) → Contains (items run.old) e → ¬ (e.0 ≡ conclusion.clause) }
+    requires uncovered { (c : TreeClause) → length c ≡ conclusion.len → ¬ IsCovered (clauses_in run.old.entries.bank (items run.old)) c (clause_at run.old.entries.bank conclusion.clause) }
+    requires shorter { length conclusion.clause ≤ conclusion.len }
+    requires premise { conclusion.len ≤ run.old.entries.longest }
+    requires fits { IfSome run.old.left (λ k. conclusion.size ≤ k) }
     ensures safe { OnOk result (IsConsistent S.atoms I.pairs I.fits run.new) }
     ensures goes { OnOk result (Goes run.old run.new) }
     ensures bindings { OnOk result (run.new.bindings.entries ≡ run.old.bindings.entries) }
-    ensures step { OnOk result (AppendsUncovered run.old run.new conclusion at len size) }
+    ensures step { OnOk result (AppendsUncovered run.old run.new conclusion.clause conclusion.at conclusion.len conclusion.size) }
     ensures linked { OnOk result (KeepsLink S.atoms S.added run.old run.new) }
-    ensures covered { OnOk result ((c : TreeClause) → length c ≡ len → IsCovered (clauses_in run.new.entries.bank (items run.new)) c (clause_at run.old.entries.bank conclusion)) }
+    ensures covered { OnOk result ((c : TreeClause) → length c ≡ conclusion.len → IsCovered (clauses_in run.new.entries.bank (items run.new)) c (clause_at run.old.entries.bank conclusion.clause)) }
 {
-    match lemma_of(run, &conclusion)? {
-        None => append_whole(run, conclusion, at, size),
-        Some(lemma) => append_part(alloc, run, &conclusion, at, lemma, len),
+    match lemma_of(run, &conclusion.clause)? {
+        None => append_whole(run, conclusion),
+        Some(lemma) => append_part(alloc, run, &conclusion, lemma),
     }
 }
 
@@ -351,6 +355,12 @@ pub fn infer<S: Solver, I: PartnerIndex>(
     }
     let other = place_of(run, partner);
     let at = Premises::new(from, place, partner, other)?;
-    append_uncovered(alloc, run, conclusion, at, len, size)?;
+    let uncovered = UncoveredConclusion {
+        clause: conclusion,
+        at,
+        len,
+        size,
+    };
+    append_uncovered(alloc, run, uncovered)?;
     Ok(())
 }

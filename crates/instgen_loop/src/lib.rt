@@ -38,6 +38,7 @@ mod small;
 mod start;
 mod state;
 mod steps;
+mod task;
 mod tested;
 mod work;
 

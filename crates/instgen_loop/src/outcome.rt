@@ -2,12 +2,13 @@
 ghost use Rattle.std.specs.Prelude.{◌≡◌, ◌≤◌, [], suc, length, true, false, Some, None, All, IsTrue, IsFalse, IsSome, IfOk, IfSome, OnOk};
 ghost use Rattle.inst_logic.specs.Measure.{is_function_free};
 ghost use Rattle.inst_logic.specs.Printing.{is_readable_name};
-ghost use Rattle.cert_format.specs.Printable.{IsPrintableClause};
+ghost use Rattle.cert_format.specs.Printable.{IsPrintableClause, IsPrintableProblem};
 ghost use Rattle.inst_logic.specs.WellFormed.{is_constant};
 ghost use Rattle.inst_calculus.specs.Abstraction.{IsBot};
 ghost use Rattle.instgen_loop.specs.Endings.{IsEndingAfter, entries_left};
 ghost use Rattle.instgen_loop.specs.Marks.{events_of};
 ghost use Rattle.instgen_loop.specs.Starting.{IsFresh, IsAllowed};
+ghost use Rattle.instgen_loop.specs.Tasks.{IsOutcomeFor, IsWithinBudget};
 ghost use Rattle.instgen_loop.specs.Outcomes.{IsOutcome, IsDecided, appended_count, journal_of};
 
 use crate::choices::Choices;
@@ -18,11 +19,12 @@ use crate::event_log::EventLog;
 use crate::finish::finish;
 use crate::queue::Partners;
 use crate::refuted::refuted_ending;
-use crate::start::{new_run, start};
+use crate::start::{Solvers, new_run, start};
 use crate::state::Run;
+use crate::task::Task;
 use cert_values::{Refutation, Saturation};
 use ground_abs::bot_of;
-use inst_logic::{Memory, Problem, Sym, function_free};
+use inst_logic::{Memory, Problem, function_free};
 use prop_logic::Solver;
 use std::alloc::Global;
 use std::mem::replace;
@@ -52,38 +54,35 @@ pub enum Outcome {
 // Starts a run, lets it work, and ends it. The run keeps its log. Nothing comes where it was given up.
 fn drive<S: Solver, I: PartnerIndex>(
     alloc: Global,
-    p: &Problem,
+    task: &Task<'_>,
     run: &mut Run<S, I>,
     mut partners: Partners<I>,
     choices: Choices<S>,
-    budget: u64,
 ) -> Result<Option<Ending>, Memory>
     requires fresh { IsFresh S.atoms S.added I.pairs run.old }
-    requires allowed { IsAllowed run.old p.now.clauses budget }
-    requires bot { IsBot p.now.clauses run.old.ground.abstraction.bot }
+    requires allowed { IsAllowed run.old task.now.problem.now.clauses task.now.budget }
+    requires bot { IsBot task.now.problem.now.clauses run.old.ground.abstraction.bot }
     requires constant { IsTrue (is_constant run.old.ground.abstraction.bot) }
     requires bot_name { IsTrue (is_readable_name run.old.ground.abstraction.bot.name) }
     requires positive { I.pairs partners.positive ≡ [] }
     requires negative { I.pairs partners.negative ≡ [] }
-    requires clauses { All IsPrintableClause p.now.clauses }
-    requires named { length p.now.names ≡ length p.now.clauses }
-    requires readable { All (λ n. IsTrue (is_readable_name n)) p.now.names }
-    ensures ending { IfOk result (λ o. IfSome o (λ e. IsEndingAfter p.now.clauses p.now.names budget e run.new.log)) }
-    ensures appended { IfOk result (λ o. IfSome o (λ e. IsFalse (is_function_free p.now.clauses) → appended_count (events_of run.new.log (entries_left e)) ≤ suc budget)) }
+    requires printable { IsPrintableProblem task.now.problem.now }
+    ensures ending { IfOk result (λ o. IfSome o (λ e. IsEndingAfter task.now e run.new.log)) }
+    ensures appended { IfOk result (λ o. IfSome o (λ e. IsWithinBudget task.now (events_of run.new.log (entries_left e)))) }
     ensures unbounded { choices.most_entries ≡ None → IfOk result IsSome }
 {
     let Choices {
         first_values,
         most_entries,
     } = choices;
-    let given = start(alloc, p, run, first_values, budget)?;
-    match cycle(alloc, run, &mut partners, p, budget, most_entries)? {
+    let given = start(alloc, task, run, first_values)?;
+    match cycle(alloc, run, &mut partners, task, most_entries)? {
         Stop::Refuted(derivation) => {
-            let ending = refuted_ending(alloc, p, run, given, derivation, budget)?;
+            let ending = refuted_ending(alloc, task, run, given, derivation)?;
             Ok(Some(ending))
         }
         Stop::Finished => {
-            let ending = finish(alloc, p, run, &partners, given, budget)?;
+            let ending = finish(alloc, task, run, &partners, given)?;
             Ok(Some(ending))
         }
         Stop::GivenUp => Ok(None),
@@ -91,95 +90,85 @@ fn drive<S: Solver, I: PartnerIndex>(
 }
 
 // What is left of the budget at first.
-fn budget_at_first(p: &Problem, budget: u64) -> Option<u64>
-    ensures free { is_function_free p.now.clauses ≡ true → result ≡ None }
-    ensures budgeted { is_function_free p.now.clauses ≡ false → result ≡ Some budget }
+fn left_at_first(task: &Task<'_>) -> Option<u64>
+    ensures free { is_function_free task.now.problem.now.clauses ≡ true → result ≡ None }
+    ensures budgeted { is_function_free task.now.problem.now.clauses ≡ false → result ≡ Some task.now.budget }
 {
-    if function_free(p) { None } else { Some(budget) }
+    if function_free(task.problem) {
+        None
+    } else {
+        Some(task.budget)
+    }
 }
 
-/// Solvers without atoms: one for the abstractions, one for the clauses of the entries, one for ground lines at the end.
+// The indexes of a run without entries: of the selected literals, and of the entries' first literals.
 #[derive(Drop)]
-struct Solvers<S: Solver> {
-    abstractions: S,
-    known: S,
-    last: S,
+struct Indexes<I: PartnerIndex> {
+    selected: Partners<I>,
+    first: I,
 }
 
-// The outcome of a run with this log that ends so, or nothing where it was given up. What is not needed is let go here.
+// How a run ended, where it was not given up, and its log.
+#[derive(Drop)]
+struct EndedRun {
+    ending: Option<Ending>,
+    log: EventLog,
+}
+
+// Makes the run, and lets it work until it ends. It is gone when the certificate and the journal are made, as are its indexes. It
+// stands in a box: a function that holds so many maps by itself takes long to prove.
+fn ended_run<S: Solver, I: PartnerIndex>(
+    alloc: Global,
+    task: &Task<'_>,
+    solvers: Solvers<S>,
+    indexes: Indexes<I>,
+    choices: Choices<S>,
+) -> Result<EndedRun, Memory>
+    requires atoms { (S.atoms solvers.abstractions ≡ 0) × (S.atoms solvers.known ≡ 0) }
+    requires added { (S.added solvers.abstractions ≡ []) × (S.added solvers.known ≡ []) }
+    requires positive { I.pairs indexes.selected.positive ≡ [] }
+    requires negative { I.pairs indexes.selected.negative ≡ [] }
+    requires first { I.pairs indexes.first ≡ [] }
+    requires printable { IsPrintableProblem task.now.problem.now }
+    requires budget { task.now.budget ≤ 1000000000000 }
+    ensures ending { IfOk result (λ r. IfSome r.ending (λ e. IsEndingAfter task.now e r.log)) }
+    ensures appended { IfOk result (λ r. IfSome r.ending (λ e. IsWithinBudget task.now (events_of r.log (entries_left e)))) }
+    ensures unbounded { choices.most_entries ≡ None → IfOk result (λ r. IsSome r.ending) }
+{
+    let bot = bot_of(alloc, task.problem)?;
+    let Indexes { selected, first } = indexes;
+    let mut run = Box::new(
+        alloc,
+        new_run(alloc, solvers, first, bot, left_at_first(task)),
+    )?;
+    let ending = drive(alloc, task, &mut run, selected, choices)?;
+    let log = replace(&mut run.log, EventLog::new(alloc));
+    Ok(EndedRun { ending, log })
+}
+
+// The outcome of the run, or nothing where it was given up. What is not needed is let go here.
 fn outcome_where_ended<S: Solver>(
     alloc: Global,
-    p: &Problem,
-    ending: Option<Ending>,
+    task: &Task<'_>,
+    run: EndedRun,
     last: S,
-    log: &EventLog,
-    budget: u64,
 ) -> Result<Option<Outcome>, Memory>
-    requires ending { IfSome ending (λ e. IsEndingAfter p.now.clauses p.now.names budget e log.now) }
-    requires appended { IfSome ending (λ e. IsFalse (is_function_free p.now.clauses) → appended_count (events_of log.now (entries_left e)) ≤ suc budget) }
+    requires ending { IfSome run.ending (λ e. IsEndingAfter task.now e run.log) }
+    requires appended { IfSome run.ending (λ e. IsWithinBudget task.now (events_of run.log (entries_left e))) }
     requires atoms { S.atoms last ≡ 0 }
     requires added { S.added last ≡ [] }
-    ensures outcome { IfOk result (λ o. IfSome o (IsOutcome p.now.clauses p.now.names budget)) }
-    ensures appended { IfOk result (λ o. IfSome o (λ it. IsFalse (is_function_free p.now.clauses) → appended_count (journal_of it) ≤ suc budget)) }
-    ensures ended { IsSome ending → IfOk result IsSome }
+    ensures outcome { IfOk result (λ o. IfSome o (IsOutcomeFor task.now)) }
+    ensures appended { IfOk result (λ o. IfSome o (λ it. IsWithinBudget task.now (journal_of it))) }
+    ensures ended { IsSome run.ending → IfOk result IsSome }
 {
+    let EndedRun { ending, log } = run;
     match ending {
         Some(ending) => {
-            let outcome = outcome_of(alloc, p, ending, last, log, budget)?;
+            let outcome = outcome_of(alloc, task, ending, last, &log)?;
             Ok(Some(outcome))
         }
         None => Ok(None),
     }
-}
-
-// Makes the run, which is gone when the certificate and the journal are made, as are its indexes. It stands in a box: a function
-// that holds so many maps by itself takes long to prove.
-fn run_over<S: Solver, I: PartnerIndex>(
-    alloc: Global,
-    p: &Problem,
-    bot: Sym,
-    solvers: Solvers<S>,
-    partners: Partners<I>,
-    first: I,
-    budget: u64,
-    choices: Choices<S>,
-) -> Result<Option<Outcome>, Memory>
-    requires bot { IsBot p.now.clauses bot }
-    requires constant { IsTrue (is_constant bot) }
-    requires bot_name { IsTrue (is_readable_name bot.name) }
-    requires atoms { (S.atoms solvers.abstractions ≡ 0) × (S.atoms solvers.known ≡ 0) × (S.atoms solvers.last ≡ 0) }
-    requires added { (S.added solvers.abstractions ≡ []) × (S.added solvers.known ≡ []) × (S.added solvers.last ≡ []) }
-    requires positive { I.pairs partners.positive ≡ [] }
-    requires negative { I.pairs partners.negative ≡ [] }
-    requires first { I.pairs first ≡ [] }
-    requires clauses { All IsPrintableClause p.now.clauses }
-    requires named { length p.now.names ≡ length p.now.clauses }
-    requires readable { All (λ n. IsTrue (is_readable_name n)) p.now.names }
-    requires budget { budget ≤ 1000000000000 }
-    ensures outcome { IfOk result (λ o. IfSome o (IsOutcome p.now.clauses p.now.names budget)) }
-    ensures appended { IfOk result (λ o. IfSome o (λ it. IsFalse (is_function_free p.now.clauses) → appended_count (journal_of it) ≤ suc budget)) }
-    ensures unbounded { choices.most_entries ≡ None → IfOk result IsSome }
-{
-    let Solvers {
-        abstractions,
-        known,
-        last,
-    } = solvers;
-    let mut run = Box::new(
-        alloc,
-        new_run(
-            alloc,
-            abstractions,
-            known,
-            first,
-            bot,
-            budget_at_first(p, budget),
-        ),
-    )?;
-    let ending = drive(alloc, p, &mut run, partners, choices, budget)?;
-    let log = replace(&mut run.log, EventLog::new(alloc));
-    drop(run);
-    outcome_where_ended(alloc, p, ending, last, &log, budget)
 }
 
 /// Runs the engine on the problem's clauses and their axioms of equality. The solver `known` has the clauses of the entries, and a
@@ -266,12 +255,15 @@ pub fn run_with<S: Solver, I: PartnerIndex>(
     ensures appended { IfOk result (λ o. IfSome o (λ it. IsFalse (is_function_free p.now.clauses) → appended_count (journal_of it) ≤ suc budget)) }
     ensures unbounded { choices.most_entries ≡ None → IfOk result IsSome }
 {
-    let bot = bot_of(alloc, p)?;
+    let task = Task { problem: p, budget };
     let solvers = Solvers {
         abstractions: solver,
         known,
-        last,
     };
-    let partners = Partners { positive, negative };
-    run_over(alloc, p, bot, solvers, partners, first, budget, choices)
+    let indexes = Indexes {
+        selected: Partners { positive, negative },
+        first,
+    };
+    let run = ended_run(alloc, &task, solvers, indexes, choices)?;
+    outcome_where_ended(alloc, &task, run, last)
 }

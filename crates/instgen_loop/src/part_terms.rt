@@ -80,30 +80,36 @@ fn bound_terms(
     Ok(terms)
 }
 
-// The terms of all variables of the conclusion, of which the literals at these places are kept.
+/// The literals of a conclusion at the places that are kept.
+#[derive(Clone, Copy)]
+pub struct Part<'a> {
+    pub whole: &'a IdClause,
+    pub keep: &'a PlaceList,
+}
+
+// The terms of all variables of the conclusion.
 fn terms_with(
     alloc: Global,
     bank: &mut Bank,
     bindings: &mut Bindings,
-    whole: &IdClause,
-    keep: &PlaceList,
+    part: &Part<'_>,
     constant: TermId,
 ) -> Result<TermIdList, Memory>
     requires fresh { bindings.old.entries ≡ [] }
-    requires whole { IsWholeClause bank.old whole.now }
-    requires canonical { IsCanonical (clause_at bank.old whole.now) }
-    requires keep { IsProperPart (length whole.now) keep.now }
+    requires whole { IsWholeClause bank.old part.now.whole.now }
+    requires canonical { IsCanonical (clause_at bank.old part.now.whole.now) }
+    requires keep { IsProperPart (length part.now.whole.now) part.now.keep.now }
     requires constant { IsTermIn bank.old constant }
     ensures extends { Extends bank.old bank.new }
     ensures formed { AreFormed bank.old → AreFormed bank.new }
     ensures ids { IfOk result (AreIds bank.new) }
     ensures plain { IfOk result (AreTermIds bank.new) }
-    ensures terms { IfOk result (λ ts. (bot : Sym) → tree_at bank.old constant ≡ app bot none → map (tree_at bank.new) ts ≡ part_terms bot (clause_at bank.old whole.now) (chosen (clause_at bank.old whole.now) keep.now)) }
+    ensures terms { IfOk result (λ ts. (bot : Sym) → tree_at bank.old constant ≡ app bot none → map (tree_at bank.new) ts ≡ part_terms bot (clause_at bank.old part.now.whole.now) (chosen (clause_at bank.old part.now.whole.now) part.now.keep.now)) }
 {
-    let kept = kept_literals(alloc, whole.as_slice(), keep)?;
-    let part = canonical(alloc, bank, &kept)?;
-    bind_all(bank, bindings, kept.as_slice(), part.as_slice())?;
-    let count = count_of(bank, whole)?;
+    let kept = kept_literals(alloc, part.whole.as_slice(), part.keep)?;
+    let canonical_part = canonical(alloc, bank, &kept)?;
+    bind_all(bank, bindings, kept.as_slice(), canonical_part.as_slice())?;
+    let count = count_of(bank, part.whole)?;
     bound_terms(alloc, bindings, count, constant)
 }
 
@@ -112,20 +118,19 @@ fn terms_with(
 pub fn part_terms(
     alloc: Global,
     bank: &mut Bank,
-    whole: &IdClause,
-    keep: &PlaceList,
+    part: &Part<'_>,
     constant: TermId,
 ) -> Result<TermIdList, Memory>
-    requires whole { IsWholeClause bank.old whole.now }
-    requires canonical { IsCanonical (clause_at bank.old whole.now) }
-    requires keep { IsProperPart (length whole.now) keep.now }
+    requires whole { IsWholeClause bank.old part.now.whole.now }
+    requires canonical { IsCanonical (clause_at bank.old part.now.whole.now) }
+    requires keep { IsProperPart (length part.now.whole.now) part.now.keep.now }
     requires constant { IsTermIn bank.old constant }
     ensures extends { Extends bank.old bank.new }
     ensures formed { AreFormed bank.old → AreFormed bank.new }
     ensures ids { IfOk result (AreIds bank.new) }
     ensures plain { IfOk result (AreTermIds bank.new) }
-    ensures terms { IfOk result (λ ts. (bot : Sym) → tree_at bank.old constant ≡ app bot none → map (tree_at bank.new) ts ≡ part_terms bot (clause_at bank.old whole.now) (chosen (clause_at bank.old whole.now) keep.now)) }
+    ensures terms { IfOk result (λ ts. (bot : Sym) → tree_at bank.old constant ≡ app bot none → map (tree_at bank.new) ts ≡ part_terms bot (clause_at bank.old part.now.whole.now) (chosen (clause_at bank.old part.now.whole.now) part.now.keep.now)) }
 {
     let mut bindings = Bindings::new(alloc);
-    terms_with(alloc, bank, &mut bindings, whole, keep, constant)
+    terms_with(alloc, bank, &mut bindings, part, constant)
 }

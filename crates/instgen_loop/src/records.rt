@@ -19,7 +19,7 @@ ghost use Rattle.instgen_loop.specs.Records.{AreConcluded, AreRecordsOf, IsConcl
 
 use crate::infer::literal_at;
 use crate::origin::{Origins, origin_of};
-use crate::part_terms::part_terms;
+use crate::part_terms::{Part, part_terms};
 use crate::premises::Premises;
 use crate::start::copied_clause;
 use cert_values::Origin;
@@ -125,7 +125,11 @@ fn how_part(
         → how_at bank.new h ≡ implied_by lemma.premises (part_terms bot p.whole (chosen p.whole lemma.keep))) }
 {
     let conclusion = conclusion_at(alloc, bank, &mut room.bindings, clauses, at)?;
-    let terms = part_terms(alloc, bank, &conclusion.clause, &lemma.keep, room.constant)?;
+    let part = Part {
+        whole: &conclusion.clause,
+        keep: &lemma.keep,
+    };
+    let terms = part_terms(alloc, bank, &part, room.constant)?;
     Ok(How::Lemma {
         terms,
         premises: lemma.premises,

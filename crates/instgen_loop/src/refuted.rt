@@ -1,9 +1,6 @@
 // The end of a run whose abstractions are refuted.
-ghost use Rattle.std.specs.Prelude.{◌≡◌, [], length, All, IsTrue, IfOk, OnOk};
-ghost use Rattle.inst_logic.specs.Printing.{is_readable_name};
-ghost use Rattle.inst_calculus.specs.Abstraction.{IsBot};
-ghost use Rattle.inst_calculus.specs.Axioms.{with_axioms};
-ghost use Rattle.cert_format.specs.Printable.{IsPrintableClause};
+ghost use Rattle.std.specs.Prelude.{◌≡◌, [], IfOk, OnOk};
+ghost use Rattle.cert_format.specs.Printable.{IsPrintableProblem};
 ghost use Rattle.prop_logic.specs.Solving.{Refutes};
 ghost use Rattle.instgen_loop.specs.Endings.{IsEndingAfter, IsRefuted, entries_left};
 ghost use Rattle.instgen_loop.specs.Lines.{AreLinesOf};
@@ -14,6 +11,7 @@ ghost use Rattle.instgen_loop.specs.ShownRuns.{IsMadeOf, IsShownOf};
 ghost use Rattle.instgen_loop.specs.Marks.{events_of};
 ghost use Rattle.instgen_loop.specs.Running.{IsRunningFor, events_so_far};
 ghost use Rattle.instgen_loop.specs.Starting.{IsOfProblem};
+ghost use Rattle.instgen_loop.specs.Tasks.{all_clauses};
 
 use crate::derived::derive;
 use crate::ending::Ending;
@@ -25,6 +23,7 @@ use crate::records::records_of;
 use crate::start::Given;
 use crate::state::Run;
 use crate::steps::ground_steps;
+use crate::task::Task;
 use cert_values::{GroundLineList, GroundStepList, Refutation};
 use compact_lists::FlatClauses;
 use ground_abs::Abstraction;
@@ -159,20 +158,17 @@ fn refuted_run<S: Solver, I: PartnerIndex>(
 /// which only the log serves for anything after.
 pub fn refuted_ending<S: Solver, I: PartnerIndex>(
     alloc: Global,
-    _p: &Problem,
+    _task: &Task<'_>,
     run: &mut Run<S, I>,
     given: Given,
     derivation: Derivation,
-    _budget: u64,
 ) -> Result<Ending, Memory>
     requires safe { IsConsistent S.atoms I.pairs I.fits run.old }
-    requires running { IsRunningFor S.atoms S.added run.old (with_axioms _p.now.clauses) _budget }
+    requires running { IsRunningFor S.atoms S.added run.old (all_clauses _task.now) _task.now.budget }
     requires refutes { Refutes (S.atoms run.old.ground.solver) (S.added run.old.ground.solver) [] [] derivation }
-    requires problem { IsOfProblem run.old given _p.now.clauses }
-    requires clauses { All IsPrintableClause _p.now.clauses }
-    requires named { length _p.now.names ≡ length _p.now.clauses }
-    requires readable { All (λ n. IsTrue (is_readable_name n)) _p.now.names }
-    ensures ending { IfOk result (λ e. IsEndingAfter _p.now.clauses _p.now.names _budget e run.new.log) }
+    requires problem { IsOfProblem run.old given _task.now.problem.now.clauses }
+    requires printable { IsPrintableProblem _task.now.problem.now }
+    ensures ending { IfOk result (λ e. IsEndingAfter _task.now e run.new.log) }
     ensures events { IfOk result (λ e. events_of run.new.log (entries_left e) ≡ events_so_far run.old) }
 {
     let refuted = refuted_run(alloc, run, given, derivation)?;

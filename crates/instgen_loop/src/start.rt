@@ -5,7 +5,7 @@ ghost use Rattle.inst_logic.specs.Clauses.{TreeClause, IsCanonical};
 ghost use Rattle.inst_logic.specs.WellFormed.{AreFormedClauses, is_constant};
 ghost use Rattle.inst_logic.specs.Printing.{is_readable_name};
 ghost use Rattle.inst_calculus.specs.Abstraction.{IsBot};
-ghost use Rattle.inst_calculus.specs.Axioms.{equality_axioms, with_axioms};
+ghost use Rattle.inst_calculus.specs.Axioms.{equality_axioms};
 ghost use Rattle.term_bank.specs.Forest.{AreFormed, Extends, clause_at};
 ghost use Rattle.cert_values.specs.Wholes.{IsWholeClause};
 ghost use Rattle.cert_format.specs.Printable.{IsPrintableClause};
@@ -13,6 +13,7 @@ ghost use Rattle.instgen_select.specs.Queues.{numbers};
 ghost use Rattle.instgen_loop.specs.Loops.{IsConsistent, items, after};
 ghost use Rattle.instgen_loop.specs.Running.{IsRunningWith};
 ghost use Rattle.instgen_loop.specs.Starting.{IsFresh, IsAllowed, AreGiven, IsOfProblem};
+ghost use Rattle.instgen_loop.specs.Tasks.{all_clauses};
 ghost use Rattle.instgen_loop.specs.FirstEntries.{Continues, IsStarted};
 
 use crate::entries::Entries;
@@ -23,6 +24,7 @@ use crate::origin::{Origins, PackedOrigin};
 use crate::scratch::Scratch;
 use crate::selection::Selection;
 use crate::state::{Run, append};
+use crate::task::Task;
 use clause_form::long_tautology;
 use compact_lists::{FlatClauses, FlatLists};
 use equality_axioms::axioms_of;
@@ -73,20 +75,24 @@ fn passive(alloc: Global, left: Option<u64>) -> Passive
     }
 }
 
-/// A run without entries, over two solvers without atoms and an index without pairs.
+/// The solvers that a run works with: one for the abstractions, one for the clauses of the entries.
+#[derive(Drop)]
+pub struct Solvers<S: Solver> {
+    pub abstractions: S,
+    pub known: S,
+}
+
+/// A run without entries, over solvers without atoms and an index without pairs.
 pub fn new_run<S: Solver, I: PartnerIndex>(
     alloc: Global,
-    solver: S,
-    known: S,
+    solvers: Solvers<S>,
     first: I,
     bot: Sym,
     left: Option<u64>,
 ) -> Run<S, I>
     requires constant { IsTrue (is_constant bot) }
-    requires atoms { S.atoms solver ≡ 0 }
-    requires added { S.added solver ≡ [] }
-    requires known_atoms { S.atoms known ≡ 0 }
-    requires known_added { S.added known ≡ [] }
+    requires atoms { (S.atoms solvers.abstractions ≡ 0) × (S.atoms solvers.known ≡ 0) }
+    requires added { (S.added solvers.abstractions ≡ []) × (S.added solvers.known ≡ []) }
     requires first { I.pairs first ≡ [] }
     ensures fresh { IsFresh S.atoms S.added I.pairs result }
     ensures bot { result.ground.abstraction.bot ≡ bot }
@@ -96,13 +102,13 @@ pub fn new_run<S: Solver, I: PartnerIndex>(
         entries: no_entries(alloc, first),
         ground: Ground {
             abstraction: Abstraction::new(alloc, bot),
-            solver,
+            solver: solvers.abstractions,
             literals: FlatClauses::new(alloc),
             valuation: Valuation::new(alloc),
             numbered: Vec::new(alloc),
             first_values: Valuation::new(alloc),
         },
-        known: Known::new(alloc, known),
+        known: Known::new(alloc, solvers.known),
         selection: Selection::new(alloc),
         queue: passive(alloc, left),
         held: Vec::new(alloc),
@@ -251,24 +257,23 @@ fn longest(clauses: &IdClauses, least: usize) -> usize
 /// the first values of atoms, if there is one, is let go.
 pub fn start<S: Solver, I: PartnerIndex>(
     alloc: Global,
-    p: &Problem,
+    task: &Task<'_>,
     run: &mut Run<S, I>,
     first_values: Option<S>,
-    _budget: u64,
 ) -> Result<Given, Memory>
     requires fresh { IsFresh S.atoms S.added I.pairs run.old }
-    requires allowed { IsAllowed run.old p.now.clauses _budget }
-    requires bot { IsBot p.now.clauses run.old.ground.abstraction.bot }
+    requires allowed { IsAllowed run.old task.now.problem.now.clauses task.now.budget }
+    requires bot { IsBot task.now.problem.now.clauses run.old.ground.abstraction.bot }
     requires constant { IsTrue (is_constant run.old.ground.abstraction.bot) }
     requires readable { IsTrue (is_readable_name run.old.ground.abstraction.bot.name) }
-    requires clauses { All IsPrintableClause p.now.clauses }
-    ensures problem { IfOk result (λ g. IsOfProblem run.new g p.now.clauses) }
+    requires clauses { All IsPrintableClause task.now.problem.now.clauses }
+    ensures problem { IfOk result (λ g. IsOfProblem run.new g task.now.problem.now.clauses) }
     ensures safe { OnOk result (IsConsistent S.atoms I.pairs I.fits run.new) }
     ensures waiting { OnOk result (numbers run.new.queue.items ≡ after 0 (length (items run.new))) }
     ensures selection { OnOk result (run.new.selection ≡ record { places = []; users = [] }) }
-    ensures running { OnOk result (IsRunningWith S.atoms S.added run.new run.new.ground.abstraction.bot (with_axioms p.now.clauses) _budget) }
+    ensures running { OnOk result (IsRunningWith S.atoms S.added run.new run.new.ground.abstraction.bot (all_clauses task.now) task.now.budget) }
 {
-    let given = given_in(alloc, &mut run.entries.bank, p)?;
+    let given = given_in(alloc, &mut run.entries.bank, task.problem)?;
     let least = longest(&given.inputs, 0);
     run.entries.longest = longest(&given.axioms, least);
     let values = predicate_values(alloc, &run.entries.bank, &given, first_values)?;

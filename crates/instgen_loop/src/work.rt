@@ -29,27 +29,33 @@ pub fn selected_atom<S: Solver, I: PartnerIndex>(run: &Run<S, I>, n: usize) -> T
     literal.atom
 }
 
+// Two entries whose selected literals the bindings unify: that of entry `from` stands on this side of them.
+#[derive(Clone, Copy, Debug)]
+struct Meeting {
+    side: Side,
+    from: usize,
+    partner: usize,
+}
+
 // What entry `from` gives with entry `partner` is covered or held back, where the bindings are proper for its side.
 fn infer_where_proper<S: Solver, I: PartnerIndex>(
     alloc: Global,
     run: &mut Run<S, I>,
-    side: Side,
-    from: usize,
-    partner: usize,
+    at: Meeting,
 ) -> Result<(), Memory>
     requires safe { IsConsistent S.atoms I.pairs I.fits run.old }
-    requires from { (0 < from) × (from ≤ length run.old.selection.places) }
-    requires partner { (0 < partner) × (partner ≤ length run.old.selection.places) }
+    requires from { (0 < at.from) × (at.from ≤ length run.old.selection.places) }
+    requires partner { (0 < at.partner) × (at.partner ≤ length run.old.selection.places) }
     requires unified { IsUnified run.old.entries.bank run.old.bindings.entries }
     ensures safe { OnOk result (IsConsistent S.atoms I.pairs I.fits run.new) }
     ensures goes { OnOk result (Goes run.old run.new) }
     ensures bindings { OnOk result (run.new.bindings.entries ≡ run.old.bindings.entries) }
-    ensures running { OnOk result (ArePaired run.old side from partner → KeepsRunning S.atoms S.added run.old run.new) }
-    ensures worked { OnOk result ((a b : Tree) (s : Sided) → IsResolvedBy run.old.entries.bank run.old.bindings.entries s → IsMostGeneral s a b → IsSelectedTree run.old from (of_pair side a b)
-        → IsSideWorked run.new (of_side s side) from partner) }
+    ensures running { OnOk result (ArePaired run.old at.side at.from at.partner → KeepsRunning S.atoms S.added run.old run.new) }
+    ensures worked { OnOk result ((a b : Tree) (s : Sided) → IsResolvedBy run.old.entries.bank run.old.bindings.entries s → IsMostGeneral s a b → IsSelectedTree run.old at.from (of_pair at.side a b)
+        → IsSideWorked run.new (of_side s at.side) at.from at.partner) }
 {
-    if run.bindings.proper(&run.entries.bank, side) {
-        infer(alloc, run, side, from, partner)
+    if run.bindings.proper(&run.entries.bank, at.side) {
+        infer(alloc, run, at.side, at.from, at.partner)
     } else {
         Ok(())
     }
@@ -59,26 +65,24 @@ fn infer_where_proper<S: Solver, I: PartnerIndex>(
 fn infer_unless_done<S: Solver, I: PartnerIndex>(
     alloc: Global,
     run: &mut Run<S, I>,
+    at: Meeting,
     is_done: bool,
-    side: Side,
-    from: usize,
-    partner: usize,
 ) -> Result<(), Memory>
     requires safe { IsConsistent S.atoms I.pairs I.fits run.old }
-    requires from { (0 < from) × (from ≤ length run.old.selection.places) }
-    requires partner { (0 < partner) × (partner ≤ length run.old.selection.places) }
+    requires from { (0 < at.from) × (at.from ≤ length run.old.selection.places) }
+    requires partner { (0 < at.partner) × (at.partner ≤ length run.old.selection.places) }
     requires unified { IsUnified run.old.entries.bank run.old.bindings.entries }
     ensures safe { OnOk result (IsConsistent S.atoms I.pairs I.fits run.new) }
     ensures goes { OnOk result (Goes run.old run.new) }
     ensures bindings { OnOk result (run.new.bindings.entries ≡ run.old.bindings.entries) }
-    ensures running { OnOk result (ArePaired run.old side from partner → KeepsRunning S.atoms S.added run.old run.new) }
-    ensures worked { OnOk result (is_done ≡ false → (a b : Tree) (s : Sided) → IsResolvedBy run.old.entries.bank run.old.bindings.entries s → IsMostGeneral s a b → IsSelectedTree run.old from (of_pair side a b)
-        → IsSideWorked run.new (of_side s side) from partner) }
+    ensures running { OnOk result (ArePaired run.old at.side at.from at.partner → KeepsRunning S.atoms S.added run.old run.new) }
+    ensures worked { OnOk result (is_done ≡ false → (a b : Tree) (s : Sided) → IsResolvedBy run.old.entries.bank run.old.bindings.entries s → IsMostGeneral s a b → IsSelectedTree run.old at.from (of_pair at.side a b)
+        → IsSideWorked run.new (of_side s at.side) at.from at.partner) }
 {
     if is_done {
         Ok(())
     } else {
-        infer_where_proper(alloc, run, side, from, partner)
+        infer_where_proper(alloc, run, at)
     }
 }
 
@@ -112,8 +116,18 @@ fn work_pair<S: Solver, I: PartnerIndex>(
     if !run.bindings.unify(&run.entries.bank, a, b)? {
         return Ok(());
     }
-    infer_unless_done(alloc, run, done.first, Side::Left, i, j)?;
-    infer_unless_done(alloc, run, done.second, Side::Right, j, i)?;
+    let first = Meeting {
+        side: Side::Left,
+        from: i,
+        partner: j,
+    };
+    let second = Meeting {
+        side: Side::Right,
+        from: j,
+        partner: i,
+    };
+    infer_unless_done(alloc, run, first, done.first)?;
+    infer_unless_done(alloc, run, second, done.second)?;
     Ok(())
 }
 

@@ -1,31 +1,53 @@
-use Rattle.std.proofs.Common.{◌∙◌}
-use Rattle.inst_calculus.specs.Axioms.{with_axioms}
-use Rattle.instgen_loop.proofs.Ended.{held_conclude, rest_read, solved_read, problem_read, events_read}
+use Rattle.std.proofs.Common.{◌∙◌, ap, ap₂}
+use Rattle.instgen_loop.specs.declared.finish.SettledRun.{SettledRun}
+use Rattle.instgen_loop.specs.Marks.{events_of}
+use Rattle.instgen_loop.specs.Tasks.{all_clauses}
+use Rattle.instgen_loop.proofs.Ended.{held_conclude, finished_read, events_read}
+use Rattle.instgen_loop.proofs.Endings.{saturated_outcome}
+use Rattle.instgen_loop.proofs.Stopped.{has_left, stopped_outcome}
 use Rattle.instgen_loop.proofs.finish.finish.Goals as goal
 
 pub decide-requires-clause-held : goal.decide-requires-clause-held
-decide-requires-clause-held g c = held_conclude g.S.Solver.atoms g.S.Solver.added c.args.run.now (with_axioms c.args.p.now.clauses) c.args.budget c.requires.running
+decide-requires-clause-held g c = held_conclude g.S.Solver.atoms g.S.Solver.added c.args.run.now (all_clauses c.args._task.now) c.args._task.now.budget c.requires.finished.solved
 
-pub saturated_ending-requires-clause-rest : goal.saturated_ending-requires-clause-rest
-saturated_ending-requires-clause-rest g c = rest_read c.args.run.now c.decide.new.run c.in_ok-decide.ensures.reads g.S.Solver.atoms g.I.PartnerIndex.pairs g.I.PartnerIndex.fits c.args.partners.now c.requires.safe c.in_ok-decide.ensures.safe c.requires.tended c.requires.rests c.requires.whole
+pub returns-in-None-clause-ending : goal.returns-in-None-clause-ending
+returns-in-None-clause-ending g c =
+    let S = g.S.Solver in
+    let I = g.I.PartnerIndex in
+    let t = c.args._task.now in
+    let p = c.args._partners.now in
+    let run = c.decide.new.run in
+    let d = c.in_ok-decide.ensures in
+    let s = c.settled_run in
+    saturated_outcome S.atoms S.added I.pairs I.fits t run p c.args.given (finished_read c.args.run.now run d.reads S.atoms S.added I.pairs I.fits t p c.args.given d.safe c.requires.finished) c.requires.printable
+    (rw c.in-None.is at d.decision) s.result s.new.run.log s.ensures.taken s.ensures.log
 
-pub saturated_ending-requires-clause-running : goal.saturated_ending-requires-clause-running
-saturated_ending-requires-clause-running g c = solved_read c.args.run.now c.decide.new.run c.in_ok-decide.ensures.reads g.S.Solver.atoms g.S.Solver.added g.I.PartnerIndex.pairs g.I.PartnerIndex.fits (with_axioms c.args.p.now.clauses) c.args.budget c.requires.safe c.requires.running
+pub left_of-left-requires : goal.left_of-left-requires
+left_of-left-requires g c =
+    let S = g.S.Solver in
+    let I = g.I.PartnerIndex in
+    let t = c.args._task.now in
+    let p = c.args._partners.now in
+    let run = c.decide.new.run in
+    let d = c.in_ok-decide.ensures in
+    has_left S.atoms S.added I.pairs I.fits t run p c.args.given c.in-Some.wanted (finished_read c.args.run.now run d.reads S.atoms S.added I.pairs I.fits t p c.args.given d.safe c.requires.finished) (rw c.in-Some.is at d.decision)
 
-pub saturated_ending-requires-clause-problem : goal.saturated_ending-requires-clause-problem
-saturated_ending-requires-clause-problem g c = problem_read c.args.run.now c.decide.new.run c.in_ok-decide.ensures.reads c.args.given c.args.p.now.clauses c.requires.problem
-
-pub stopped_ending-requires-clause-rest : goal.stopped_ending-requires-clause-rest
-stopped_ending-requires-clause-rest g c = rest_read c.args.run.now c.decide.new.run c.in_ok-decide.ensures.reads g.S.Solver.atoms g.I.PartnerIndex.pairs g.I.PartnerIndex.fits c.args.partners.now c.requires.safe c.in_ok-decide.ensures.safe c.requires.tended c.requires.rests c.requires.whole
-
-pub stopped_ending-requires-clause-running : goal.stopped_ending-requires-clause-running
-stopped_ending-requires-clause-running g c = solved_read c.args.run.now c.decide.new.run c.in_ok-decide.ensures.reads g.S.Solver.atoms g.S.Solver.added g.I.PartnerIndex.pairs g.I.PartnerIndex.fits (with_axioms c.args.p.now.clauses) c.args.budget c.requires.safe c.requires.running
-
-pub stopped_ending-requires-clause-problem : goal.stopped_ending-requires-clause-problem
-stopped_ending-requires-clause-problem g c = problem_read c.args.run.now c.decide.new.run c.in_ok-decide.ensures.reads c.args.given c.args.p.now.clauses c.requires.problem
+pub returns-in-Some-clause-ending : goal.returns-in-Some-clause-ending
+returns-in-Some-clause-ending g c =
+    let S = g.S.Solver in
+    let I = g.I.PartnerIndex in
+    let t = c.args._task.now in
+    let p = c.args._partners.now in
+    let run = c.decide.new.run in
+    let d = c.in_ok-decide.ensures in
+    let s = c.settled_run-state in
+    stopped_outcome S.atoms S.added I.pairs I.fits t run p c.args.given c.in-Some.wanted (finished_read c.args.run.now run d.reads S.atoms S.added I.pairs I.fits t p c.args.given d.safe c.requires.finished)
+    (rw c.in-Some.is at d.decision) c.left_of-left.result c.left_of-left.ensures s.result s.new.run.log s.ensures.taken s.ensures.log
 
 pub returns-in-None-clause-events : goal.returns-in-None-clause-events
-returns-in-None-clause-events g c = c.saturated_ending.ensures.events ∙ events_read c.args.run.now c.decide.new.run c.in_ok-decide.ensures.reads
+returns-in-None-clause-events g c =
+    ap₂ events_of c.settled_run.ensures.log (ap (λ (s : SettledRun). s.remains.clauses.entries) c.settled_run.ensures.taken) ∙ events_read c.args.run.now c.decide.new.run c.in_ok-decide.ensures.reads
 
 pub returns-in-Some-clause-events : goal.returns-in-Some-clause-events
-returns-in-Some-clause-events g c = c.stopped_ending.ensures.events ∙ events_read c.args.run.now c.decide.new.run c.in_ok-decide.ensures.reads
+returns-in-Some-clause-events g c =
+    ap₂ events_of c.settled_run-state.ensures.log (ap (λ (s : SettledRun). s.remains.clauses.entries) c.settled_run-state.ensures.taken) ∙ events_read c.args.run.now c.decide.new.run c.in_ok-decide.ensures.reads

@@ -14,7 +14,7 @@ use Rattle.instgen_loop.proofs.Runs.{linked_read}
 use Rattle.instgen_loop.proofs.infer.append_part.Goals as goal
 
 pub part_of-requires-clause-keep : goal.part_of-requires-clause-keep
-part_of-requires-clause-keep g c = same_part c.args.run.now.entries.bank c.args.conclusion.now c.args.lemma.keep c.requires.reduction.keep
+part_of-requires-clause-keep g c = same_part c.args.run.now.entries.bank c.args.conclusion.now.clause c.args.lemma.keep c.requires.reduction.keep
 
 pub append-requires-clause-new : goal.append-requires-clause-new
 append-requires-clause-new g c = λ e i q.
@@ -22,7 +22,7 @@ append-requires-clause-new g c = λ e i q.
     let mid = c.part_of.new.run in
     let p = c.in_ok-part.ensures in
     let same : items mid ≡ items run = ap (λ (r : Run _ _ _). items r) p.reads.rest in
-    part_new run.entries.bank mid.entries.bank p.reads.bank (items run) c.requires.safe.entries c.args.conclusion.now c.in_ok-part.part c.args.lemma.keep c.args._len c.requires.reduction.keep p.part c.requires.shorter
+    part_new run.entries.bank mid.entries.bank p.reads.bank (items run) c.requires.safe.entries c.args.conclusion.now.clause c.in_ok-part.part c.args.lemma.keep c.args.conclusion.now.len c.requires.reduction.keep p.part c.requires.shorter
     c.requires.uncovered e (subst (λ (es : List Item). Contains es e) same i) q
 
 pub append-requires-clause-bounded : goal.append-requires-clause-bounded
@@ -31,7 +31,7 @@ append-requires-clause-bounded g c =
     let mid = c.part_of.new.run in
     let p = c.in_ok-part.ensures in
     subst (λ n. length c.in_ok-part.part ≤ n) (sym (ap (λ (r : Run _ _ _). r.entries.longest) p.reads.rest))
-    (part_bounded run.entries.bank mid.entries.bank p.reads.bank (items run) c.requires.safe.entries c.args.conclusion.now c.in_ok-part.part c.args.lemma.keep c.args._len c.requires.reduction.keep p.part c.requires.shorter
+    (part_bounded run.entries.bank mid.entries.bank p.reads.bank (items run) c.requires.safe.entries c.args.conclusion.now.clause c.in_ok-part.part c.args.lemma.keep c.args.conclusion.now.len c.requires.reduction.keep p.part c.requires.shorter
     run.entries.longest c.requires.bounded)
 
 pub returns-clause-appends : goal.returns-clause-appends

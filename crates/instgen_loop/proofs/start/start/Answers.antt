@@ -13,7 +13,7 @@ use Rattle.instgen_loop.proofs.Started.{printable_formed}
 use Rattle.instgen_loop.proofs.start.start.Goals as goal
 
 pub given_in-requires-clause-clauses : goal.given_in-requires-clause-clauses
-given_in-requires-clause-clauses g c = printable_formed c.args.p.now.clauses c.requires.clauses
+given_in-requires-clause-clauses g c = printable_formed c.args.task.now.problem.now.clauses c.requires.clauses
 
 pub start_entries-requires-clause-safe : goal.start_entries-requires-clause-safe
 start_entries-requires-clause-safe g c =
@@ -28,7 +28,7 @@ start_entries-requires-clause-safe g c =
 
 pub start_entries-requires-clause-canonical : goal.start_entries-requires-clause-canonical
 start_entries-requires-clause-canonical g c =
-    given_canonical c.given_in.new.bank c.in_ok-given.given.inputs c.args.p.now.clauses c.in_ok-given.ensures.inputs (printable_canonical c.args.p.now.clauses c.requires.clauses)
+    given_canonical c.given_in.new.bank c.in_ok-given.given.inputs c.args.task.now.problem.now.clauses c.in_ok-given.ensures.inputs (printable_canonical c.args.task.now.problem.now.clauses c.requires.clauses)
 
 pub start_entries-requires-clause-bounded : goal.start_entries-requires-clause-bounded
 start_entries-requires-clause-bounded g c = bounds_grow c.in_ok-given.given.inputs c.longest-least.result c.longest-run.result c.longest-run.ensures.least c.longest-least.ensures.each
@@ -39,14 +39,14 @@ start_entries-requires-2-clause-bounded g c =
 
 pub start_entries-requires-2-clause-whole : goal.start_entries-requires-2-clause-whole
 start_entries-requires-2-clause-whole g c =
-    let later = given_grown c.given_in.new.bank c.start_entries.new.run.entries.bank c.in_ok-start_entries.ensures.continues.bank c.in_ok-given.given.axioms (equality_axioms c.args.p.now.clauses) c.in_ok-given.ensures.axioms in
+    let later = given_grown c.given_in.new.bank c.start_entries.new.run.entries.bank c.in_ok-start_entries.ensures.continues.bank c.in_ok-given.given.axioms (equality_axioms c.args.task.now.problem.now.clauses) c.in_ok-given.ensures.axioms in
     later.whole
 
 pub start_entries-requires-2-clause-canonical : goal.start_entries-requires-2-clause-canonical
 start_entries-requires-2-clause-canonical g c =
     let f = c.start_entries.new.run.entries.bank in
-    let axioms = equality_axioms c.args.p.now.clauses in
-    given_canonical f c.in_ok-given.given.axioms axioms (given_grown c.given_in.new.bank f c.in_ok-start_entries.ensures.continues.bank c.in_ok-given.given.axioms axioms c.in_ok-given.ensures.axioms) (axioms_canonical c.args.p.now.clauses)
+    let axioms = equality_axioms c.args.task.now.problem.now.clauses in
+    given_canonical f c.in_ok-given.given.axioms axioms (given_grown c.given_in.new.bank f c.in_ok-start_entries.ensures.continues.bank c.in_ok-given.given.axioms axioms c.in_ok-given.ensures.axioms) (axioms_canonical c.args.task.now.problem.now.clauses)
 
 pub returns-clause-waiting : goal.returns-clause-waiting
 returns-clause-waiting g c =
@@ -58,7 +58,7 @@ returns-clause-waiting g c =
     let n = c.longest-run.result in
     let v = c.in_ok-values.values in
     let f = c.start_entries.new.run.entries.bank in
-    let clauses = c.args.p.now.clauses in
+    let clauses = c.args.task.now.problem.now.clauses in
     let given = c.in_ok-given.given in
     let empty = fresh_started atoms added pairs (with_given run mid n v) (fresh_interned atoms added pairs run mid n v c.given_in.ensures.formed c.requires.fresh) in
     let first = c.in_ok-start_entries.ensures.started [] refl empty in
@@ -78,7 +78,7 @@ returns-clause-selection g c =
     let n = c.longest-run.result in
     let v = c.in_ok-values.values in
     let f = c.start_entries.new.run.entries.bank in
-    let clauses = c.args.p.now.clauses in
+    let clauses = c.args.task.now.problem.now.clauses in
     let given = c.in_ok-given.given in
     let empty = fresh_started atoms added pairs (with_given run mid n v) (fresh_interned atoms added pairs run mid n v c.given_in.ensures.formed c.requires.fresh) in
     let first = c.in_ok-start_entries.ensures.started [] refl empty in
@@ -98,7 +98,7 @@ returns-clause-running g c =
     let n = c.longest-run.result in
     let v = c.in_ok-values.values in
     let f = c.start_entries.new.run.entries.bank in
-    let clauses = c.args.p.now.clauses in
+    let clauses = c.args.task.now.problem.now.clauses in
     let given = c.in_ok-given.given in
     let empty = fresh_started atoms added pairs (with_given run mid n v) (fresh_interned atoms added pairs run mid n v c.given_in.ensures.formed c.requires.fresh) in
     let first = c.in_ok-start_entries.ensures.started [] refl empty in
@@ -108,7 +108,7 @@ returns-clause-running g c =
     (subst (λ (cs : List TreeClause). IsStarted atoms added c.start_entries-2.new.run (map (clause_at mid) given.inputs ++ cs)) later.same all) in
     let a = c.in_ok-start_entries.ensures.continues in
     let b = c.in_ok-start_entries-2.ensures.continues in
-    starts_with atoms added run c.start_entries-2.new.run clauses c.args._budget started c.requires.allowed (b.left ∙ a.left)
+    starts_with atoms added run c.start_entries-2.new.run clauses c.args.task.now.budget started c.requires.allowed (b.left ∙ a.left)
 
 pub returns-clause-problem : goal.returns-clause-problem
 returns-clause-problem g c =
@@ -120,5 +120,5 @@ returns-clause-problem g c =
     let n = c.longest-run.result in
     let v = c.in_ok-values.values in
     let last = c.start_entries-2.new.run in
-    problem_later (with_given run mid n v) last c.in_ok-given.given c.args.p.now.clauses (extends_trans mid c.start_entries.new.run.entries.bank last.entries.bank a.bank b.bank) (b.bot ∙ a.bot)
+    problem_later (with_given run mid n v) last c.in_ok-given.given c.args.task.now.problem.now.clauses (extends_trans mid c.start_entries.new.run.entries.bank last.entries.bank a.bank b.bank) (b.bot ∙ a.bot)
     (record { inputs = e.inputs; axioms = e.axioms; bot = c.requires.bot; constant = c.requires.constant; readable = c.requires.readable })
