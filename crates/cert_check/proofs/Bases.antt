@@ -1,16 +1,17 @@
--- What the check of the axioms and members gives for both kinds of certificates.
-use Rattle.std.proofs.Common.{◌≡◌, ℕ, ◌<◌, ◌≤◌, refl, ap, sym, ◌∙◌, subst, Option, None, Some, arith, ◌⊎◌, inl, inr}
+-- What the check of the axioms and members gives.
+use Rattle.std.proofs.Common.{rules, ◌≡◌, ℕ, ◌<◌, ◌≤◌, refl, ap, sym, ◌∙◌, subst, Option, None, Some, arith, ◌⊎◌, inl, inr}
 use Rattle.inst_logic.specs.Clauses.{TreeClause, canonical_form, instance, IsCanonical}
 use Rattle.inst_logic.specs.Derivations.{at_number}
 use Rattle.inst_calculus.specs.Entries.{Origin, input, inst, lemma, Entry}
 use Rattle.inst_calculus.specs.Parts.{chosen}
 use Rattle.inst_calculus.proofs.CanonicalForms.{canonical_of_canonical}
 use Rattle.cert_format.specs.Certificate as format
-use Rattle.cert_format.specs.Validity.{Gives, IsRightAxiom, IsRightMember, IsFirstComplaint, Precedes, rank}
+use Rattle.cert_format.specs.Validity.{Gives, IsRightAxiom, IsRightMember, IsFirstComplaint, IsValidBase, Precedes, rank}
 use Rattle.cert_format.specs.declared.complaint.Complaint.{Complaint}
-use Rattle.cert_format.specs.declared.complaint.Complaint.TheVariants.{Axiom, Member as Derived, Bot, Ground, Step as Shown, NotEmpty, Place, Input, Pair, Cover as Named}
-use Rattle.cert_format.specs.Validity.{BasePasses, IsValidBase}
+use Rattle.cert_format.specs.declared.complaint.Complaint.TheVariants.{Axiom, Member as Derived}
 use Rattle.cert_check.specs.Firsts.{IsFirstWrong, IsFirstWrongOf}
+use Rattle.cert_check.specs.Stages.{IsAllowedMember, MembersPass}
+use Rattle.cert_check.specs.declared.base.Lemmas.{Lemmas}
 pub use Rattle.cert_values.proofs.Kept.{base_same}
 
 -- a right member is canonical
@@ -44,29 +45,10 @@ none_wrong P (Some n) h other = absurd (other n refl)
 pub some_wrong : (P : ℕ → Type 0) (r : Option ℕ) (n : ℕ) → IsFirstWrongOf P r → r ≡ Some n → IsFirstWrong P n
 some_wrong P r n h is = subst (IsFirstWrongOf P) is h
 
-pub member_first : (b : format.Base) → ((n : ℕ) → IsRightAxiom b n) → (n : ℕ) → IsFirstWrong (IsRightMember b) n → IsFirstComplaint (BasePasses b) (Derived n)
-member_first b axioms n h = record { applies = h.applies; first = earlier }
-  where
-    earlier : (other : Complaint) → Precedes other (Derived n) → BasePasses b other
-    earlier (Axiom m) p = axioms m
-    earlier (Derived m) p = h.before m (smaller 1 m n p)
-    earlier Bot p = tt
-    earlier (Ground m) p = tt
-    earlier (Shown m) p = tt
-    earlier NotEmpty p = tt
-    earlier (Place m) p = tt
-    earlier (Input m) p = tt
-    earlier (Pair l m) p = tt
-    earlier (Named m) p = tt
+pub member_first : (lemmas : Lemmas) (b : format.Base) → ((n : ℕ) → IsRightAxiom b n) → (n : ℕ) → IsFirstWrong (IsAllowedMember lemmas b) n → IsFirstComplaint (MembersPass lemmas b) (Derived n)
+member_first lemmas b axioms n h = search rules
 
 pub valid_base : (b : format.Base) → ((n : ℕ) → IsRightAxiom b n) → ((n : ℕ) → IsRightMember b n) → IsValidBase b
 valid_base b axioms members (Axiom n) = axioms n
 valid_base b axioms members (Derived n) = members n
-valid_base b axioms members Bot = tt
-valid_base b axioms members (Ground n) = tt
-valid_base b axioms members (Shown n) = tt
-valid_base b axioms members NotEmpty = tt
-valid_base b axioms members (Place n) = tt
-valid_base b axioms members (Input k) = tt
-valid_base b axioms members (Pair l m) = tt
-valid_base b axioms members (Named n) = tt
+valid_base b axioms members _ = tt

@@ -2,7 +2,6 @@ pub mod Bases
 pub mod Closings
 pub mod CoverLaws
 pub mod Differences
-pub mod FirstMembers
 pub mod GroundMembers
 pub mod InputScans
 pub mod Interning

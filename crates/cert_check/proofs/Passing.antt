@@ -1,32 +1,26 @@
--- The members, one after another.
-use Rattle.std.proofs.Common.{◌≡◌, ℕ, zero, suc, ◌+◌, ◌<◌, ◌≤◌, map, subst, arith, ◌⊎◌, inl, inr, length, None}
+-- No member is wrong past the last one.
+use Rattle.std.proofs.Common.{◌≡◌, ℕ, zero, suc, ◌+◌, ◌<◌, ◌≤◌, map, arith, inl, inr, length, None, Some}
 use Rattle.std.specs.Prelude.{slice_get}
+use Rattle.std.proofs.lemmas.Bool.{cases_lt}
 use Rattle.std.proofs.lemmas.List.{length-map}
-use Rattle.cert_format.specs.Certificate as format
-use Rattle.cert_format.specs.Validity.{IsRightMember}
+use Rattle.std.proofs.lemmas.Option.{slice_get_past}
+use Rattle.inst_logic.specs.Derivations.{at_number}
+use Rattle.inst_calculus.specs.Entries.{Entry}
 use Rattle.cert_values.specs.declared.certificate.Base.{Base}
 use Rattle.cert_values.specs.Values.{base_of, entry_of}
-use Rattle.cert_check.specs.Firsts.{IsFirstWrong}
-use Rattle.std.proofs.lemmas.Option.{slice_get_past}
+use Rattle.cert_check.specs.Stages.{IsAllowedMember}
+use Rattle.cert_check.specs.declared.base.Lemmas.{Lemmas}
+use Rattle.cert_check.specs.declared.base.Lemmas.TheVariants.{Allowed, Refused}
 
-lt_or_le : (i j : ℕ) → (i < j) ⊎ (j ≤ i)
-lt_or_le i zero = inr (omega arith)
-lt_or_le zero (suc j) = inl (omega arith)
-lt_or_le (suc i) (suc j) = elim (lt_or_le i j) [ inl l ↦ inl (omega arith) | inr g ↦ inr (omega arith) ]
+none_past : (b : Base) (k : ℕ) (e : Entry) → length b.members < k → at_number (base_of b).members k ≡ Some e → ⊥
+none_past b zero e g at = absurd (omega arith)
+none_past b (suc k) e g at =
+    let none : slice_get (map (entry_of b.bank) b.members) k ≡ None = slice_get_past (map (entry_of b.bank) b.members) k (let l = length-map b.members (entry_of b.bank) in omega arith) in
+    absurd (cc)
 
--- no member is wrong past the last one
-pub all_right : (b : Base) (n : ℕ) → length b.members ≤ n → ((m : ℕ) → m < n + 1 → IsRightMember (base_of b) m) → (m : ℕ) → IsRightMember (base_of b) m
-all_right b n h f m = elim (lt_or_le m (n + 1)) [ inl l ↦ f m l | inr g ↦ beyond m g ]
-  where
-    beyond : (k : ℕ) → n + 1 ≤ k → IsRightMember (base_of b) k
-    beyond zero g e at = absurd (omega arith)
-    beyond (suc k) g e at =
-        let none : slice_get (map (entry_of b.bank) b.members) k ≡ None = slice_get_past (map (entry_of b.bank) b.members) k (let l = length-map b.members (entry_of b.bank) in omega arith) in
-        absurd (cc)
+allowed_past : (lemmas : Lemmas) (b : Base) (k : ℕ) → length b.members < k → IsAllowedMember lemmas (base_of b) k
+allowed_past Allowed b k g = λ e at. absurd (none_past b k e g at)
+allowed_past Refused b k g = λ e at. absurd (none_past b k e g at)
 
--- one more right member
-pub one_more_right : (b : format.Base) (i : ℕ) → ((m : ℕ) → m < i + 1 → IsRightMember b m) → IsRightMember b (i + 1) → (m : ℕ) → m < (i + 1) + 1 → IsRightMember b m
-one_more_right b i f here m l = elim (lt_or_le m (i + 1)) [ inl k ↦ f m k | inr g ↦ (let e : i + 1 ≡ m = omega arith in subst (IsRightMember b) e here) ]
-
-pub first_wrong : (b : format.Base) (i : ℕ) → ((m : ℕ) → m < i + 1 → IsRightMember b m) → ¬ IsRightMember b (i + 1) → IsFirstWrong (IsRightMember b) (i + 1)
-first_wrong b i f h = record { applies = h; before = f }
+pub all_allowed : (lemmas : Lemmas) (b : Base) (n : ℕ) → length b.members ≤ n → ((m : ℕ) → m < n + 1 → IsAllowedMember lemmas (base_of b) m) → (m : ℕ) → IsAllowedMember lemmas (base_of b) m
+all_allowed lemmas b n h f m = elim (cases_lt m (n + 1)) [ inl l ↦ f m l | inr g ↦ allowed_past lemmas b m (omega arith) ]

@@ -1,21 +1,24 @@
 -- The stages of the check of a refutation.
-use Rattle.std.proofs.Common.{◌≡◌, ℕ, ◌<◌, Bool, false, List, [], ◌∷◌, refl, ap, sym, ◌∙◌, ◌++◌, map, subst, arith, length}
+use Rattle.std.proofs.Common.{arith, rules, ◌≡◌, ℕ, Bool, false, List, [], ◌∷◌, refl, ap, sym, ◌∙◌, ◌++◌, map, subst, length}
 use Rattle.std.specs.Prelude.{All, IsTrue, ◌↔◌, ◌-◌, Option, None, Some, option_map, slice_get}
 use Rattle.std.proofs.lemmas.List.{length-map}
 use Rattle.std.proofs.lemmas.Option.{slice_get-map, same_Some}
 use Rattle.inst_logic.specs.declared.signed.Signed.{Signed}
 use Rattle.inst_logic.specs.Clauses.{TreeClause}
 use Rattle.inst_logic.specs.Derivations.{at_number}
+use Rattle.inst_logic.specs.Tree.{Tree}
+use Rattle.inst_logic.specs.WellFormed.{is_constant}
 use Rattle.inst_calculus.specs.Axioms.{with_axioms}
-use Rattle.inst_calculus.specs.Steps.{EndsEmpty}
+use Rattle.inst_calculus.specs.Steps.{Step, EndsEmpty}
 use Rattle.inst_calculus.proofs.Membership.{all_in, in_all}
 use Rattle.term_bank.specs.Forest.{Forest, AreFormed, Extends, IsClauseOf, clause_at}
 use Rattle.term_bank.proofs.Growth.{extends_itself, extends_trans}
 use Rattle.cert_format.specs.Certificate as format
-use Rattle.cert_format.specs.Validity.{IsRightAxiom, IsRightGroundLine, RefutationPasses, LinesPass, IsFirstComplaint, Precedes, rank}
-use Rattle.cert_format.specs.TermLists.{IsGroundLineOf}
+use Rattle.cert_format.specs.Certificate.{line_clauses}
+use Rattle.cert_format.specs.Validity.{IsRightAxiom, IsRightFirstMember, IsRightGround, IsRightGroundLine, IsRightMember, RefutationPasses, LinesPass, IsFirstComplaint, IsValidByLines, IsValidRefutation, Precedes}
 use Rattle.cert_format.specs.declared.complaint.Complaint.{Complaint}
-use Rattle.cert_format.specs.declared.complaint.Complaint.TheVariants.{Axiom, Member as Derived, Bot, Ground, Step as Shown, NotEmpty, Place, Input, Pair, Cover as Named}
+use Rattle.cert_format.specs.TermLists.{IsGroundLineOf}
+use Rattle.cert_format.specs.declared.complaint.Complaint.TheVariants.{Axiom, Member as Derived, Bot, Ground, Step as Shown, NotEmpty}
 use Rattle.cert_values.specs.declared.certificate.Base.{Base}
 use Rattle.cert_values.specs.declared.certificate.FirstRefutation.{FirstRefutation}
 use Rattle.cert_values.specs.declared.certificate.GroundStep.{GroundStep}
@@ -24,9 +27,12 @@ use Rattle.cert_values.specs.declared.certificate.Refutation.{Refutation}
 use Rattle.cert_values.specs.Values.{step_of, line_of, refutation_of}
 use Rattle.cert_values.specs.Wholes.{IsWholeClause, IsWholeBase, IsWholeFirst, KeepsBase}
 use Rattle.cert_names.specs.Under.{IsFirstWrongLine}
+use Rattle.cert_check.specs.Answers.{IsCheckCause}
 use Rattle.cert_check.specs.Firsts.{IsFirstWrong, IsFirstWrongOf}
-use Rattle.cert_check.proofs.Rightness.{all_inputs}
+use Rattle.cert_check.specs.Stages.{IsRightStepNumber, StepsPass}
+use Rattle.cert_check.specs.declared.error.CheckError.{CheckError}
 use Rattle.cert_check.proofs.Bases.{at_most, smaller}
+use Rattle.cert_check.proofs.Rightness.{all_inputs}
 use Rattle.cert_values.proofs.Grown.{clause_grown, clauses_grown, members_grown, steps_grown}
 
 pub whole_base : (b : Base) (g : Forest) → IsWholeBase b → Extends b.bank g → AreFormed g → IsWholeBase (record b { bank = g })
@@ -57,110 +63,51 @@ keeps_trans a b c p q = record {
   rest = q.rest ∙ ap (λ (x : Base). record x { bank = c.bank }) p.rest;
 }
 
--- The checks of a refutation of any format, and a complaint that comes first: what is asked of places, inputs, pairs and covers
--- is nothing.
-module _ (Passes : Complaint → Type 0) (others : (k : Complaint) → 5 < rank k → Passes k) where
-  first_by : (k : Complaint) → ¬ Passes k → ((n : ℕ) → Precedes (Axiom n) k → Passes (Axiom n)) → ((n : ℕ) → Precedes (Derived n) k → Passes (Derived n))
-      → (Precedes Bot k → Passes Bot) → ((n : ℕ) → Precedes (Ground n) k → Passes (Ground n)) → ((n : ℕ) → Precedes (Shown n) k → Passes (Shown n))
-      → (Precedes NotEmpty k → Passes NotEmpty) → IsFirstComplaint Passes k
-  first_by k applies axioms members bot grounds steps empty = record { applies = applies; first = earlier }
+-- where all steps are right, the complaint about their end comes first
+pub end_wrong : (given : List TreeClause) (steps : List (Step Tree)) → ((n : ℕ) → IsRightStepNumber given steps n) → ¬ EndsEmpty steps → IsFirstComplaint (StepsPass given steps) NotEmpty
+end_wrong given steps shown wrong = search rules
+
+-- where all that comes before is passed, the complaint about a ground line comes first,
+module _ (r : format.Refutation) (axioms : (n : ℕ) → IsRightAxiom r.base n) (members : (n : ℕ) → IsRightMember r.base n) (constant : IsTrue (is_constant r.bot)) where
+  pub line_wrong : (n : ℕ) → IsFirstWrong (IsRightGroundLine r) n → IsFirstComplaint (LinesPass r) (Ground n)
+  line_wrong n h = record { applies = h.applies; first = earlier }
     where
-      earlier : (other : Complaint) → Precedes other k → Passes other
-      earlier (Axiom n) p = axioms n p
-      earlier (Derived n) p = members n p
-      earlier Bot p = bot p
-      earlier (Ground n) p = grounds n p
-      earlier (Shown n) p = steps n p
-      earlier NotEmpty p = empty p
-      earlier (Place n) p = others (Place n) (omega arith)
-      earlier (Input n) p = others (Input n) (omega arith)
-      earlier (Pair l n) p = others (Pair l n) (omega arith)
-      earlier (Named n) p = others (Named n) (omega arith)
+      earlier : (k : Complaint) → Precedes k (Ground n) → LinesPass r k
+      earlier (Axiom m) p = axioms m
+      earlier (Derived m) p = members m
+      earlier Bot p = constant
+      earlier (Ground m) p = h.before m (smaller 3 m n p)
+      earlier (Shown m) p = let q = at_most (Shown m) (Ground n) p in absurd (omega arith)
+      earlier NotEmpty p = let q = at_most NotEmpty (Ground n) p in absurd (omega arith)
+      earlier _ p = tt
 
-  pub axiom_first : (n : ℕ) → IsFirstWrong (λ m. Passes (Axiom m)) n → IsFirstComplaint Passes (Axiom n)
-  axiom_first n h =
-      first_by (Axiom n) h.applies (λ m p. h.before m (smaller 0 m n p))
-      (λ m p. let q = at_most (Derived m) (Axiom n) p in absurd (omega arith))
-      (λ p. let q = at_most Bot (Axiom n) p in absurd (omega arith))
-      (λ m p. let q = at_most (Ground m) (Axiom n) p in absurd (omega arith))
-      (λ m p. let q = at_most (Shown m) (Axiom n) p in absurd (omega arith))
-      (λ p. let q = at_most NotEmpty (Axiom n) p in absurd (omega arith))
+  -- then that about the steps
+  module _ (lines : (n : ℕ) → IsRightGroundLine r n) where
+    pub line_steps : (e : CheckError) → IsCheckCause (StepsPass (line_clauses r.grounds) r.steps) e → IsCheckCause (LinesPass r) e
+    line_steps e h = search rules
 
-  module _ (axioms : (n : ℕ) → Passes (Axiom n)) where
-    pub derived_first : (n : ℕ) → IsFirstWrong (λ m. Passes (Derived m)) n → IsFirstComplaint Passes (Derived n)
-    derived_first n h =
-        first_by (Derived n) h.applies (λ m p. axioms m) (λ m p. h.before m (smaller 1 m n p))
-        (λ p. let q = at_most Bot (Derived n) p in absurd (omega arith))
-        (λ m p. let q = at_most (Ground m) (Derived n) p in absurd (omega arith))
-        (λ m p. let q = at_most (Shown m) (Derived n) p in absurd (omega arith))
-        (λ p. let q = at_most NotEmpty (Derived n) p in absurd (omega arith))
+    pub lines_valid : ((n : ℕ) → IsRightStepNumber (line_clauses r.grounds) r.steps n) → EndsEmpty r.steps → IsValidByLines r
+    lines_valid shown empty (Axiom n) = axioms n
+    lines_valid shown empty (Derived n) = members n
+    lines_valid shown empty Bot = constant
+    lines_valid shown empty (Ground n) = lines n
+    lines_valid shown empty (Shown n) = shown n
+    lines_valid shown empty NotEmpty = empty
+    lines_valid shown empty _ = tt
 
-    module _ (members : (n : ℕ) → Passes (Derived n)) where
-      pub bot_first : ¬ Passes Bot → IsFirstComplaint Passes Bot
-      bot_first h =
-          first_by Bot h (λ n p. axioms n) (λ n p. members n)
-          (λ p. let q = smaller 2 0 0 p in absurd (omega arith))
-          (λ n p. let q = at_most (Ground n) Bot p in absurd (omega arith))
-          (λ n p. let q = at_most (Shown n) Bot p in absurd (omega arith))
-          (λ p. let q = at_most NotEmpty Bot p in absurd (omega arith))
+-- and so in the first format
+module _ (r : format.FirstRefutation) (axioms : (n : ℕ) → IsRightAxiom r.base n) (members : (n : ℕ) → IsRightFirstMember r.base n) (constant : IsTrue (is_constant r.bot)) (grounds : (n : ℕ) → IsRightGround r n) where
+  pub first_steps : (e : CheckError) → IsCheckCause (StepsPass r.grounds r.steps) e → IsCheckCause (RefutationPasses r) e
+  first_steps e h = search rules
 
-      module _ (bot : Passes Bot) where
-        pub ground_first : (n : ℕ) → IsFirstWrong (λ m. Passes (Ground m)) n → IsFirstComplaint Passes (Ground n)
-        ground_first n h =
-            first_by (Ground n) h.applies (λ m p. axioms m) (λ m p. members m) (λ p. bot)
-            (λ m p. h.before m (smaller 3 m n p))
-            (λ m p. let q = at_most (Shown m) (Ground n) p in absurd (omega arith))
-            (λ p. let q = at_most NotEmpty (Ground n) p in absurd (omega arith))
-
-        module _ (grounds : (n : ℕ) → Passes (Ground n)) where
-          pub step_first : (n : ℕ) → IsFirstWrong (λ m. Passes (Shown m)) n → IsFirstComplaint Passes (Shown n)
-          step_first n h =
-              first_by (Shown n) h.applies (λ m p. axioms m) (λ m p. members m) (λ p. bot) (λ m p. grounds m)
-              (λ m p. h.before m (smaller 4 m n p))
-              (λ p. let q = at_most NotEmpty (Shown n) p in absurd (omega arith))
-
-          module _ (steps : (n : ℕ) → Passes (Shown n)) where
-            pub empty_first : ¬ Passes NotEmpty → IsFirstComplaint Passes NotEmpty
-            empty_first h =
-                first_by NotEmpty h (λ m p. axioms m) (λ m p. members m) (λ p. bot) (λ m p. grounds m) (λ m p. steps m)
-                (λ p. let q = smaller 5 0 0 p in absurd (omega arith))
-
-            pub all_pass : Passes NotEmpty → (k : Complaint) → Passes k
-            all_pass empty (Axiom n) = axioms n
-            all_pass empty (Derived n) = members n
-            all_pass empty Bot = bot
-            all_pass empty (Ground n) = grounds n
-            all_pass empty (Shown n) = steps n
-            all_pass empty NotEmpty = empty
-            all_pass empty (Place n) = others (Place n) (omega arith)
-            all_pass empty (Input k) = others (Input k) (omega arith)
-            all_pass empty (Pair l m) = others (Pair l m) (omega arith)
-            all_pass empty (Named n) = others (Named n) (omega arith)
-
--- what is asked of a refutation of either format
-pub first_others : (c : format.FirstRefutation) → (k : Complaint) → 5 < rank k → RefutationPasses c k
-first_others c (Axiom n) h = absurd (omega arith)
-first_others c (Derived n) h = absurd (omega arith)
-first_others c Bot h = absurd (omega arith)
-first_others c (Ground n) h = absurd (omega arith)
-first_others c (Shown n) h = absurd (omega arith)
-first_others c NotEmpty h = absurd (omega arith)
-first_others c (Place n) h = tt
-first_others c (Input k) h = tt
-first_others c (Pair l m) h = tt
-first_others c (Named n) h = tt
-
-pub line_others : (c : format.Refutation) → (k : Complaint) → 5 < rank k → LinesPass c k
-line_others c (Axiom n) h = absurd (omega arith)
-line_others c (Derived n) h = absurd (omega arith)
-line_others c Bot h = absurd (omega arith)
-line_others c (Ground n) h = absurd (omega arith)
-line_others c (Shown n) h = absurd (omega arith)
-line_others c NotEmpty h = absurd (omega arith)
-line_others c (Place n) h = tt
-line_others c (Input k) h = tt
-line_others c (Pair l m) h = tt
-line_others c (Named n) h = tt
+  pub first_valid : ((n : ℕ) → IsRightStepNumber r.grounds r.steps n) → EndsEmpty r.steps → IsValidRefutation r
+  first_valid shown empty (Axiom n) = axioms n
+  first_valid shown empty (Derived n) = members n
+  first_valid shown empty Bot = constant
+  first_valid shown empty (Ground n) = grounds n
+  first_valid shown empty (Shown n) = shown n
+  first_valid shown empty NotEmpty = empty
+  first_valid shown empty _ = tt
 
 -- the first wrong line of ids is that of trees
 first_of_lines : (f : Forest) (cs : List (List (Signed ℕ))) (lines : List GroundLine) (ds : List TreeClause) → map (clause_at f) cs ≡ ds → (o : Option ℕ) → IsFirstWrongLine f cs lines o

@@ -1,5 +1,5 @@
 -- The first number for which a fact does not hold.
-use Rattle.std.specs.Prelude.{ℕ, ◌<◌, min, Option, None, Some}
+use Rattle.std.specs.Prelude.{ℕ, ◌<◌, Option, None, Some}
 
 pub record IsFirstWrong (P : ℕ → Type 0) (n : ℕ) : Type 0 where
   pub applies : ¬ P n
@@ -9,9 +9,3 @@ pub record IsFirstWrong (P : ℕ → Type 0) (n : ℕ) : Type 0 where
 abbrev pub IsFirstWrongOf : (ℕ → Type 0) → Option ℕ → Type 0
 IsFirstWrongOf P None = (n : ℕ) → P n
 IsFirstWrongOf P (Some n) = IsFirstWrong P n
-
--- the smaller of the numbers that are there
-abbrev pub first_of_both : Option ℕ → Option ℕ → Option ℕ
-first_of_both None o = o
-first_of_both (Some m) None = Some m
-first_of_both (Some m) (Some n) = Some (min m n)

@@ -16,7 +16,7 @@ ghost use Rattle.cert_index.specs.Chains.{AreMeetings};
 ghost use Rattle.cert_check.specs.Compared.{IsComparable};
 ghost use Rattle.cert_index.specs.Lookups.{IsReady};
 
-use crate::base::check_base;
+use crate::base::{Lemmas, check_base};
 use crate::compare::{Progress, compare_pairs, wrong_cover};
 use crate::covering::cover_pairs;
 use crate::error::CheckError;
@@ -122,7 +122,7 @@ fn name_all(alloc: Global, cert: &mut Covered) -> Result<(), CheckError>
     ensures named { OnOk result (IsNamed (covered_of cert.new)) }
     ensures complaint { IfErr result (IsCheckCause (SaturationPasses (saturation_of cert.old.cert))) }
 {
-    check_base(alloc, &mut cert.cert.base)?;
+    check_base(alloc, &mut cert.cert.base, Lemmas::Allowed)?;
     if let Some(n) = wrong_place(&cert.cert) {
         return Err(CheckError::Complaint(Complaint::Place { n }));
     }
@@ -206,7 +206,7 @@ fn check(alloc: Global, cert: &mut Covered) -> Result<(), CheckError>
     ensures named { OnOk result (IsNamed (covered_of cert.old)) }
     ensures complaint { IfErr result (IsCheckCause (CoversPass (covered_of cert.old))) }
 {
-    check_base(alloc, &mut cert.cert.base)?;
+    check_base(alloc, &mut cert.cert.base, Lemmas::Allowed)?;
     if let Some(n) = wrong_place(&cert.cert) {
         return Err(CheckError::Complaint(Complaint::Place { n }));
     }

@@ -1,24 +1,20 @@
 // The check of refutations of the first format. Nothing else makes a checked one, so who has one needs no further proof.
-ghost use Rattle.std.specs.Prelude.{◌≡◌, ◌↔◌, ℕ, IfErr, IfOk, OnOk, IsTrue, All, Any};
+ghost use Rattle.std.specs.Prelude.{◌≡◌, ℕ, IfErr, IfOk, OnOk, IsTrue, All, Any};
 ghost use Rattle.inst_logic.specs.Clauses.{IsGround, IsInstance};
 ghost use Rattle.inst_logic.specs.Truth.{IsRefuted};
 ghost use Rattle.inst_calculus.specs.Axioms.{with_axioms};
 ghost use Rattle.inst_logic.specs.WellFormed.{is_constant};
-ghost use Rattle.cert_format.specs.Validity.{IsFirstOrigin, IsRightAxiom, IsRightFirstMember, IsRightGround, IsValidRefutation, RefutationPasses};
-ghost use Rattle.cert_values.specs.Values.{base_of, first_of, origin_of};
-ghost use Rattle.cert_values.specs.Wholes.{IsWholeBase, IsWholeFirst, KeepsBase, KeepsFirst};
+ghost use Rattle.cert_format.specs.Validity.{IsRightAxiom, IsRightFirstMember, IsRightGround, IsValidRefutation, RefutationPasses};
+ghost use Rattle.cert_values.specs.Values.{first_of};
+ghost use Rattle.cert_values.specs.Wholes.{IsWholeFirst, KeepsFirst};
 ghost use Rattle.cert_check.specs.Answers.{IsCheckCause};
-ghost use Rattle.cert_check.specs.Firsts.{IsFirstWrongOf, first_of_both};
-ghost use Rattle.cert_check.specs.Origins.{IsNoLemmaAt};
-ghost use Rattle.cert_check.specs.Stages.{IsRightStepNumber};
 
-use crate::base::{wrong_axiom, wrong_member};
+use crate::base::{Lemmas, check_base};
 use crate::error::CheckError;
-use crate::grounds::{first_wrong_ground, is_constant};
-use crate::steps::{ends_empty, numbered_clauses, wrong_step};
+use crate::grounds::{check_constant, first_wrong_ground};
+use crate::steps::{check_steps, numbered_clauses};
 use cert_format::{Complaint, valid_refutations_refute};
-use cert_values::{Base, FirstRefutation, MemberList, Origin};
-use inst_logic::Memory;
+use cert_values::FirstRefutation;
 use std::alloc::Global;
 use std::marker::Model;
 
@@ -65,89 +61,21 @@ impl CheckedFirst {
     }
 }
 
-// Whether the member is no lemma.
-fn is_first_origin(origin: &Origin) -> bool
-    ensures { IsTrue result ↔ IsFirstOrigin (origin_of origin.now) }
-{
-    match origin {
-        Origin::Input(_) | Origin::Inst { .. } => true,
-        Origin::Lemma { .. } => false,
-    }
-}
-
-// The number of the first member that is a lemma.
-fn first_lemma(members: &MemberList) -> Option<usize>
-    ensures { IsFirstWrongOf (IsNoLemmaAt members.now) result }
-{
-    for i in 0..members.len() {
-        if !is_first_origin(&members.as_slice()[i].origin) {
-            return Some(i + 1);
-        }
-    }
-    None
-}
-
-// The smaller number.
-fn earlier(a: Option<usize>, b: Option<usize>) -> Option<usize>
-    ensures { result ≡ first_of_both a b }
-{
-    match (a, b) {
-        (Some(m), Some(n)) => Some(m.min(n)),
-        (Some(m), None) => Some(m),
-        (None, n) => n,
-    }
-}
-
-// The number of the first member that is a lemma, or is not what its origin gives.
-fn wrong_first_member(alloc: Global, base: &mut Base) -> Result<Option<usize>, Memory>
-    requires whole { IsWholeBase base.old }
-    requires axioms { (n : ℕ) → IsRightAxiom (base_of base.old) n }
-    ensures kept { KeepsBase base.old base.new }
-    ensures whole { OnOk result (IsWholeBase base.new) }
-    ensures first { IfOk result (IsFirstWrongOf (IsRightFirstMember (base_of base.old))) }
-{
-    let lemma = first_lemma(&base.members);
-    let wrong = wrong_member(alloc, base)?;
-    Ok(earlier(lemma, wrong))
-}
-
-// The first complaint about the axioms and then about the members, if there is one.
-fn check_members(alloc: Global, cert: &mut FirstRefutation) -> Result<(), CheckError>
-    requires { IsWholeFirst cert.old }
+// The first complaint about the ground clauses, if there is one: one that is not its member under the constant.
+fn check_grounds(alloc: Global, cert: &mut FirstRefutation) -> Result<(), CheckError>
+    requires whole { IsWholeFirst cert.old }
+    requires axioms { (n : ℕ) → IsRightAxiom (first_of cert.old).base n }
+    requires members { (n : ℕ) → IsRightFirstMember (first_of cert.old).base n }
+    requires constant { IsTrue (is_constant cert.old.bot) }
     ensures kept { KeepsFirst cert.old cert.new }
     ensures whole { OnOk result (IsWholeFirst cert.new) }
-    ensures axioms { OnOk result ((n : ℕ) → IsRightAxiom (first_of cert.old).base n) }
-    ensures members { OnOk result ((n : ℕ) → IsRightFirstMember (first_of cert.old).base n) }
+    ensures grounds { OnOk result ((n : ℕ) → IsRightGround (first_of cert.old) n) }
     ensures complaint { IfErr result (IsCheckCause (RefutationPasses (first_of cert.old))) }
 {
-    if let Some(n) = wrong_axiom(alloc, &mut cert.base)? {
-        return Err(CheckError::Complaint(Complaint::Axiom { n }));
-    }
-    if let Some(n) = wrong_first_member(alloc, &mut cert.base)? {
-        return Err(CheckError::Complaint(Complaint::Member { n }));
+    if let Some(n) = first_wrong_ground(alloc, &mut cert.base, &cert.bot, &cert.grounds)? {
+        return Err(CheckError::Complaint(Complaint::Ground { n }));
     }
     Ok(())
-}
-
-// The number of the first ground clause that is not its member under the constant.
-fn wrong_ground(alloc: Global, cert: &mut FirstRefutation) -> Result<Option<usize>, Memory>
-    requires whole { IsWholeFirst cert.old }
-    requires members { (n : ℕ) → IsRightFirstMember (first_of cert.old).base n }
-    requires bot { IsTrue (is_constant cert.old.bot) }
-    ensures kept { KeepsFirst cert.old cert.new }
-    ensures whole { OnOk result (IsWholeFirst cert.new) }
-    ensures first { IfOk result (IsFirstWrongOf (IsRightGround (first_of cert.old))) }
-{
-    first_wrong_ground(alloc, &mut cert.base, &cert.bot, &cert.grounds)
-}
-
-// The number of the first step that has no hint or is not shown.
-fn wrong_first_step(alloc: Global, cert: &FirstRefutation) -> Result<Option<usize>, Memory>
-    requires { IsWholeFirst cert.now }
-    ensures { IfOk result (IsFirstWrongOf (IsRightStepNumber (first_of cert.now).grounds (first_of cert.now).steps)) }
-{
-    let given = numbered_clauses(alloc, &cert.grounds)?;
-    wrong_step(alloc, &cert.base.bank, &given, &cert.steps)
 }
 
 // The first complaint, if there is one.
@@ -158,19 +86,11 @@ fn check(alloc: Global, cert: &mut FirstRefutation) -> Result<(), CheckError>
     ensures valid { OnOk result (IsValidRefutation (first_of cert.old)) }
     ensures complaint { IfErr result (IsCheckCause (RefutationPasses (first_of cert.old))) }
 {
-    check_members(alloc, cert)?;
-    if !is_constant(&cert.bot) {
-        return Err(CheckError::Complaint(Complaint::Bot));
-    }
-    if let Some(n) = wrong_ground(alloc, cert)? {
-        return Err(CheckError::Complaint(Complaint::Ground { n }));
-    }
-    if let Some(n) = wrong_first_step(alloc, cert)? {
-        return Err(CheckError::Complaint(Complaint::Step { n }));
-    }
-    if !ends_empty(&cert.steps) {
-        return Err(CheckError::Complaint(Complaint::NotEmpty));
-    }
+    check_base(alloc, &mut cert.base, Lemmas::Refused)?;
+    check_constant(&cert.bot)?;
+    check_grounds(alloc, cert)?;
+    let given = numbered_clauses(alloc, &cert.grounds)?;
+    check_steps(alloc, &cert.base.bank, &given, &cert.steps)?;
     Ok(())
 }
 

@@ -1,6 +1,6 @@
-// Whether the ground clauses are the members' under a constant. Each is compared by its ids as it comes, and only an instance of
-// a clause with variables is built.
-ghost use Rattle.std.specs.Prelude.{◌≡◌, ◌↔◌, ◌<◌, ◌≤◌, All, IfOk, IsTrue, length, map};
+// The check of the constant, and whether the ground clauses are the members' under it. Each is compared by its ids as it comes,
+// and only an instance of a clause with variables is built.
+ghost use Rattle.std.specs.Prelude.{◌≡◌, ◌↔◌, ◌<◌, ◌≤◌, All, IfErr, IfOk, IsTrue, OnOk, length, map};
 ghost use Rattle.inst_logic.specs.Clauses.{IsCanonical, instance, order_of};
 ghost use Rattle.inst_logic.specs.Derivations.{at_number};
 ghost use Rattle.inst_logic.specs.WellFormed.{IsTerm, is_constant};
@@ -9,9 +9,13 @@ ghost use Rattle.inst_calculus.specs.Entries.{entry_clauses};
 ghost use Rattle.cert_values.specs.Values.{base_of};
 ghost use Rattle.cert_values.specs.Wholes.{IsWholeBase, KeepsBase};
 ghost use Rattle.term_bank.specs.Forest.{AreFormed, Extends, IsClauseAt, IsClauseOf, clause_at, tree_at};
+ghost use Rattle.cert_check.specs.Answers.{IsCheckCause};
 ghost use Rattle.cert_check.specs.Firsts.{IsFirstWrongOf};
 ghost use Rattle.cert_check.specs.Grounds.{AreCanonicalMembers, IsGroundAt};
+ghost use Rattle.cert_check.specs.Stages.{ConstantPasses};
 
+use crate::error::CheckError;
+use cert_format::Complaint;
 use cert_inference::same_trees;
 use cert_values::Base;
 use clause_form::{greatest_variable, under};
@@ -19,13 +23,24 @@ use inst_logic::{Kind, Memory, Sym};
 use std::alloc::Global;
 use term_bank::{Bank, IdClause, IdClauseList, TermId, TermIdList};
 
-pub fn is_constant(s: &Sym) -> bool
+fn is_constant(s: &Sym) -> bool
     ensures { result ≡ is_constant s.now }
 {
     match s.kind {
         Kind::Function => s.arity == 0,
         Kind::Predicate | Kind::Equality => false,
     }
+}
+
+// The complaint about the constant, if there is one.
+pub fn check_constant(bot: &Sym) -> Result<(), CheckError>
+    ensures constant { OnOk result (IsTrue (is_constant bot.now)) }
+    ensures complaint { IfErr result (IsCheckCause (ConstantPasses bot.now)) }
+{
+    if !is_constant(bot) {
+        return Err(CheckError::Complaint(Complaint::Bot));
+    }
+    Ok(())
 }
 
 // The id once for each variable of the clause.

@@ -1,25 +1,23 @@
 // The check of refutations whose ground clauses name their inputs. Nothing else makes a checked one, so who has one needs no
 // further proof.
-ghost use Rattle.std.specs.Prelude.{◌≡◌, ℕ, IfErr, IfOk, OnOk, All, Any};
+ghost use Rattle.std.specs.Prelude.{◌≡◌, ℕ, IfErr, IfOk, IsTrue, OnOk, All, Any};
 ghost use Rattle.inst_logic.specs.Clauses.{IsGround, IsInstance};
 ghost use Rattle.inst_logic.specs.Truth.{IsRefuted};
+ghost use Rattle.inst_logic.specs.WellFormed.{is_constant};
 ghost use Rattle.inst_calculus.specs.Axioms.{with_axioms};
 ghost use Rattle.cert_format.specs.Certificate.{line_clauses};
 ghost use Rattle.cert_format.specs.Validity.{IsRightAxiom, IsRightGroundLine, IsRightMember, IsValidByLines, LinesPass};
 ghost use Rattle.cert_values.specs.Values.{refutation_of};
 ghost use Rattle.cert_values.specs.Wholes.{IsWholeRefutation, KeepsRefutation};
 ghost use Rattle.cert_check.specs.Answers.{IsCheckCause};
-ghost use Rattle.cert_check.specs.Firsts.{IsFirstWrongOf};
-ghost use Rattle.cert_check.specs.Stages.{IsRightStepNumber};
 
-use crate::base::{wrong_axiom, wrong_member};
+use crate::base::{Lemmas, check_base};
 use crate::error::CheckError;
-use crate::grounds::is_constant;
-use crate::steps::{ends_empty, numbered_lines, wrong_step};
+use crate::grounds::check_constant;
+use crate::steps::{check_steps, numbered_lines};
 use cert_format::{Complaint, valid_lines_refute};
 use cert_names::first_wrong_line;
 use cert_values::Refutation;
-use inst_logic::Memory;
 use std::alloc::Global;
 use std::marker::Model;
 
@@ -57,49 +55,23 @@ impl CheckedRefutation {
     }
 }
 
-// The first complaint about the axioms and then about the members, if there is one.
-fn check_members(alloc: Global, cert: &mut Refutation) -> Result<(), CheckError>
-    requires { IsWholeRefutation cert.old }
-    ensures kept { KeepsRefutation cert.old cert.new }
-    ensures whole { OnOk result (IsWholeRefutation cert.new) }
-    ensures axioms { OnOk result ((n : ℕ) → IsRightAxiom (refutation_of cert.old).base n) }
-    ensures members { OnOk result ((n : ℕ) → IsRightMember (refutation_of cert.old).base n) }
-    ensures complaint { IfErr result (IsCheckCause (LinesPass (refutation_of cert.old))) }
-{
-    if let Some(n) = wrong_axiom(alloc, &mut cert.base)? {
-        return Err(CheckError::Complaint(Complaint::Axiom { n }));
-    }
-    if let Some(n) = wrong_member(alloc, &mut cert.base)? {
-        return Err(CheckError::Complaint(Complaint::Member { n }));
-    }
-    Ok(())
-}
-
-// The number of the first ground line that is not the instance that it names.
-fn wrong_line(alloc: Global, cert: &mut Refutation) -> Result<Option<usize>, Memory>
+// The first complaint about the ground lines, if there is one: one that is not the instance that it names.
+fn check_lines(alloc: Global, cert: &mut Refutation) -> Result<(), CheckError>
     requires whole { IsWholeRefutation cert.old }
     requires axioms { (n : ℕ) → IsRightAxiom (refutation_of cert.old).base n }
+    requires members { (n : ℕ) → IsRightMember (refutation_of cert.old).base n }
+    requires constant { IsTrue (is_constant cert.old.bot) }
     ensures kept { KeepsRefutation cert.old cert.new }
     ensures whole { OnOk result (IsWholeRefutation cert.new) }
-    ensures first { IfOk result (IsFirstWrongOf (IsRightGroundLine (refutation_of cert.old))) }
+    ensures lines { OnOk result ((n : ℕ) → IsRightGroundLine (refutation_of cert.old) n) }
+    ensures complaint { IfErr result (IsCheckCause (LinesPass (refutation_of cert.old))) }
 {
     let bank = &mut cert.base.bank;
-    first_wrong_line(
-        alloc,
-        bank,
-        &cert.base.inputs,
-        &cert.base.axioms,
-        &cert.grounds,
-    )
-}
-
-// The number of the first step that has no hint or is not shown.
-fn wrong_line_step(alloc: Global, cert: &Refutation) -> Result<Option<usize>, Memory>
-    requires { IsWholeRefutation cert.now }
-    ensures { IfOk result (IsFirstWrongOf (IsRightStepNumber (line_clauses (refutation_of cert.now).grounds) (refutation_of cert.now).steps)) }
-{
-    let given = numbered_lines(alloc, &cert.grounds)?;
-    wrong_step(alloc, &cert.base.bank, &given, &cert.steps)
+    let inputs = &cert.base.inputs;
+    if let Some(n) = first_wrong_line(alloc, bank, inputs, &cert.base.axioms, &cert.grounds)? {
+        return Err(CheckError::Complaint(Complaint::Ground { n }));
+    }
+    Ok(())
 }
 
 // The first complaint, if there is one.
@@ -110,19 +82,11 @@ fn check(alloc: Global, cert: &mut Refutation) -> Result<(), CheckError>
     ensures valid { OnOk result (IsValidByLines (refutation_of cert.old)) }
     ensures complaint { IfErr result (IsCheckCause (LinesPass (refutation_of cert.old))) }
 {
-    check_members(alloc, cert)?;
-    if !is_constant(&cert.bot) {
-        return Err(CheckError::Complaint(Complaint::Bot));
-    }
-    if let Some(n) = wrong_line(alloc, cert)? {
-        return Err(CheckError::Complaint(Complaint::Ground { n }));
-    }
-    if let Some(n) = wrong_line_step(alloc, cert)? {
-        return Err(CheckError::Complaint(Complaint::Step { n }));
-    }
-    if !ends_empty(&cert.steps) {
-        return Err(CheckError::Complaint(Complaint::NotEmpty));
-    }
+    check_base(alloc, &mut cert.base, Lemmas::Allowed)?;
+    check_constant(&cert.bot)?;
+    check_lines(alloc, cert)?;
+    let given = numbered_lines(alloc, &cert.grounds)?;
+    check_steps(alloc, &cert.base.bank, &given, &cert.steps)?;
     Ok(())
 }
 

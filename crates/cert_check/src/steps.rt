@@ -1,15 +1,18 @@
-// The steps of a refutation as steps over numbers. An atom's id serves as its number: equal atoms have equal ids, so no
-// table is built.
-ghost use Rattle.std.specs.Prelude.{◌≡◌, ◌↔◌, All, IfOk, IsTrue, ◌+◌, ◌<◌, length, map};
+// The check of the steps of a refutation, as steps over numbers. An atom's id serves as its number: equal atoms have equal ids,
+// so no table is built.
+ghost use Rattle.std.specs.Prelude.{◌≡◌, ◌↔◌, ℕ, All, IfErr, IfOk, IsTrue, OnOk, ◌+◌, ◌<◌, length, map};
 ghost use Rattle.inst_calculus.specs.Steps.{EndsEmpty};
 ghost use Rattle.term_bank.specs.Forest.{Forest, clause_at};
 ghost use Rattle.cert_values.specs.Values.{step_of};
 ghost use Rattle.cert_values.specs.Wholes.{IsWholeClause};
 ghost use Rattle.prop_logic.specs.Literal.{AllAtomsBelow, StepsBelow};
+ghost use Rattle.cert_check.specs.Answers.{IsCheckCause};
 ghost use Rattle.cert_check.specs.Firsts.{IsFirstWrongOf};
 ghost use Rattle.cert_check.specs.Numbered.{IsRightNumber, numbered_hint, numbered_step};
-ghost use Rattle.cert_check.specs.Stages.{IsRightStepNumber};
+ghost use Rattle.cert_check.specs.Stages.{IsRightStepNumber, StepsPass};
 
+use crate::error::CheckError;
+use cert_format::Complaint;
 use cert_values::{GroundHint, GroundHintList, GroundLineList, GroundStepList};
 use inst_logic::{Memory, Signed};
 use proof_log::Checker;
@@ -113,7 +116,7 @@ fn first_wrong(checker: &mut Checker, given: &LitLists, derivation: &Derivation)
 }
 
 // The number of the first step that has no hint or is not shown from the given clauses and the steps before it.
-pub fn wrong_step(
+fn wrong_step(
     alloc: Global,
     bank: &Bank,
     given: &LitLists,
@@ -129,11 +132,33 @@ pub fn wrong_step(
 }
 
 // Whether there is a last step and it is the empty clause.
-pub fn ends_empty(steps: &GroundStepList) -> bool
+fn ends_empty(steps: &GroundStepList) -> bool
     ensures { (f : Forest) → IsTrue result ↔ EndsEmpty (map (step_of f) steps.now) }
 {
     match steps.as_slice().last() {
         Some(step) => step.clause.is_empty(),
         None => false,
     }
+}
+
+// The first complaint about the steps, if there is one: of a step, or else of the end.
+pub fn check_steps(
+    alloc: Global,
+    bank: &Bank,
+    given: &LitLists,
+    steps: &GroundStepList,
+) -> Result<(), CheckError>
+    requires given { AllAtomsBelow (length bank.now.trees) given.now }
+    requires steps { All (λ s. IsWholeClause bank.now s.clause) steps.now }
+    ensures shown { OnOk result ((n : ℕ) → IsRightStepNumber (map (clause_at bank.now) given.now) (map (step_of bank.now) steps.now) n) }
+    ensures empty { OnOk result (EndsEmpty (map (step_of bank.now) steps.now)) }
+    ensures complaint { IfErr result (IsCheckCause (StepsPass (map (clause_at bank.now) given.now) (map (step_of bank.now) steps.now))) }
+{
+    if let Some(n) = wrong_step(alloc, bank, given, steps)? {
+        return Err(CheckError::Complaint(Complaint::Step { n }));
+    }
+    if !ends_empty(steps) {
+        return Err(CheckError::Complaint(Complaint::NotEmpty));
+    }
+    Ok(())
 }

@@ -2,11 +2,11 @@ use Rattle.std.proofs.Common.{refl, subst}
 use Rattle.std.specs.Prelude.{IfErr, OnOk}
 use Rattle.cert_format.specs.Certificate as format
 use Rattle.cert_format.specs.Validity.{CoversPass, IsNamed, IsRightPlace}
-use Rattle.cert_values.specs.Values.{covered_of}
+use Rattle.cert_values.specs.Values.{base_of, covered_of}
 use Rattle.cert_values.proofs.Kept.{covered_same, covered_whole}
 use Rattle.cert_check.specs.Answers.{IsCheckCause}
 use Rattle.cert_check.specs.Firsts.{IsFirstWrong}
-use Rattle.cert_check.proofs.Bases.{none_wrong}
+use Rattle.cert_check.proofs.Bases.{none_wrong, valid_base}
 use Rattle.cert_check.proofs.CoverGrowth.{covered_trans}
 use Rattle.cert_check.proofs.CoveredStages.{place_first}
 use Rattle.cert_check.proofs.PairScans.{valid_kept}
@@ -17,7 +17,7 @@ pub returns-in-Some-clause-complaint : goal.returns-in-Some-clause-complaint
 returns-in-Some-clause-complaint c =
     let cert = c.args.cert.now in
     let same = saturation_same cert.cert (record cert.cert { base = c.check_base.new.base }) c.requires.cert (keeps_saturation cert.cert c.check_base.new.base c.check_base.ensures.kept) in
-    place_first (covered_of cert) c.in_ok-check_base.ensures.valid c.in-Some.n (subst (λ (x : format.Saturation). IsFirstWrong (IsRightPlace x) c.in-Some.n) same c.in-Some.ensures)
+    place_first (covered_of cert) (valid_base (base_of c.args.cert.now.cert.base) c.in_ok-check_base.ensures.axioms c.in_ok-check_base.ensures.members) c.in-Some.n (subst (λ (x : format.Saturation). IsFirstWrong (IsRightPlace x) c.in-Some.n) same c.in-Some.ensures)
 
 pub compare_names-requires : goal.compare_names-requires
 compare_names-requires c =
@@ -27,7 +27,7 @@ compare_names-requires c =
     record {
       comparable = record {
         whole = covered_whole cert now c.requires kept c.in_ok-check_base.ensures.whole;
-        base = valid_kept cert.cert now c.requires.cert kept c.in_ok-check_base.ensures.valid;
+        base = valid_kept cert.cert now c.requires.cert kept (valid_base (base_of c.args.cert.now.cert.base) c.in_ok-check_base.ensures.axioms c.in_ok-check_base.ensures.members);
         placed = none_wrong _ c.wrong_place.result c.wrong_place.ensures c.in_default.not-Some;
       };
     }

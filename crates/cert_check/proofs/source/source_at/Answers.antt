@@ -11,7 +11,7 @@ use Rattle.cert_values.specs.Values.{base_of, entry_of, origin_of}
 use Rattle.cert_values.specs.Wholes.{IsWholeClause}
 use Rattle.cert_values.proofs.Grown.{terms_grown}
 use Rattle.cert_check.specs.Sources.{AreConclusionTerms, Conclude}
-use Rattle.cert_check.proofs.FirstMembers.{entry_there}
+use Rattle.cert_check.proofs.Rightness.{entry_there}
 use Rattle.cert_check.proofs.GroundMembers.{canonical_members}
 use Rattle.cert_check.proofs.Refutations.{whole_base}
 use Rattle.cert_check.proofs.Rightness.{member_ids}

@@ -9,7 +9,7 @@ use Rattle.cert_values.specs.declared.certificate.GroundLine.{GroundLine}
 use Rattle.cert_values.specs.Values.{base_of}
 use Rattle.cert_values.proofs.Kept.{base_same}
 use Rattle.cert_check.specs.Sources.{AreFirstMembers, AreGroundLines, IsSource}
-use Rattle.cert_check.proofs.FirstMembers.{item_there}
+use Rattle.cert_check.proofs.Rightness.{item_there}
 use Rattle.cert_check.proofs.GroundMembers.{at_grown}
 use Rattle.cert_check.proofs.Refutations.{keeps_trans}
 use Rattle.cert_check.proofs.Sources.{lines_grown, one_more_line, lines_counted, source_grown}

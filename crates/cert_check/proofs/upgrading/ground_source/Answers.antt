@@ -5,7 +5,7 @@ use Rattle.inst_logic.specs.Clauses.{IsCanonical}
 use Rattle.term_bank.specs.Forest.{clause_at}
 use Rattle.cert_values.specs.declared.member.Member.{Member}
 use Rattle.cert_values.specs.Values.{entry_of}
-use Rattle.cert_check.proofs.FirstMembers.{entry_there}
+use Rattle.cert_check.proofs.Rightness.{entry_there}
 use Rattle.cert_check.proofs.GroundMembers.{canonical_members}
 use Rattle.cert_check.proofs.Refutations.{whole_base}
 use Rattle.cert_check.proofs.Rightness.{member_ids}

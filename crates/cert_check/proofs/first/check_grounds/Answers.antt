@@ -1,7 +1,6 @@
-use Rattle.std.proofs.lemmas.Result.{IfOk-weaker}
 use Rattle.cert_check.proofs.Refutations.{first_whole}
 use Rattle.cert_check.proofs.GroundMembers.{canonical_members}
-use Rattle.cert_check.proofs.first.wrong_ground.Goals as goal
+use Rattle.cert_check.proofs.first.check_grounds.Goals as goal
 
 pub first_wrong_ground-requires-clause-canonical : goal.first_wrong_ground-requires-clause-canonical
 first_wrong_ground-requires-clause-canonical c = canonical_members c.args.cert.now.base (λ n e at. (c.requires.members n e at).1)
@@ -10,6 +9,4 @@ pub first_wrong_ground-requires-clause-grounds : goal.first_wrong_ground-require
 first_wrong_ground-requires-clause-grounds c i d within = (c.requires.whole.grounds i d within).ids
 
 pub returns-clause-whole : goal.returns-clause-whole
-returns-clause-whole c =
-    let whole = first_whole c.args.cert.now c.first_wrong_ground.new.base c.requires.whole c.first_wrong_ground.ensures.kept c.first_wrong_ground.ensures.whole in
-    IfOk-weaker c.first_wrong_ground.result _ _ (λ _ _. whole) c.first_wrong_ground.ensures.first
+returns-clause-whole c = first_whole c.args.cert.now c.first_wrong_ground.new.base c.requires.whole c.first_wrong_ground.ensures.kept c.first_wrong_ground.ensures.whole
