@@ -16,6 +16,7 @@ ghost use Rattle.cdcl_core.specs.Analysis.{IsMarked, AreCounted, AreWaiting, Mar
 use crate::log::Log;
 use crate::packed_hint::PackedHint;
 use crate::places::Places;
+use crate::reasons::Reasons;
 use crate::redundancy::all_follow;
 use crate::seen::Seen;
 use cdcl_trail::Trail;
@@ -122,25 +123,24 @@ fn mark_all(
 // all paths to the conflict go through. After it those stay that are above level 0 and do not follow from what is marked. One
 // that follows only by atoms without marks is resolved too: these atoms are marked then, are met later, and follow in turn.
 fn stays(
-    log: &Log,
-    trail: &Trail,
+    reasons: Reasons<'_>,
     seen: &mut Seen,
     analysis: &Analysis,
     level: usize,
     number: usize,
 ) -> bool
-    requires ready { IsReady log.now trail.now.trail }
-    requires size { length seen.old ≡ trail.now.trail.atoms }
+    requires ready { IsReady reasons.log.now reasons.trail.now.trail }
+    requires size { length seen.old ≡ reasons.trail.now.trail.atoms }
     ensures same { seen.new ≡ seen.old }
-    ensures stays { IsTrue result → (0 < level) × (analysis.now.clause.items ≡ [] → (level ≡ trail.now.trail.level) × (analysis.now.waiting.present ≤ 1)) }
+    ensures stays { IsTrue result → (0 < level) × (analysis.now.clause.items ≡ [] → (level ≡ reasons.entry.trail.now.trail.level) × (analysis.now.waiting.present ≤ 1)) }
 {
     if level == 0 {
         return false;
     }
     if analysis.clause.is_empty() {
-        return level == trail.level() && analysis.waiting.present <= 1;
+        return level == reasons.trail.level() && analysis.waiting.present <= 1;
     }
-    !all_follow(log, trail, seen, number, DEPTH)
+    !all_follow(reasons, seen, number, DEPTH)
 }
 
 // Counts a literal as met.
@@ -154,21 +154,21 @@ fn count_met(trail: &Trail, present: &mut usize, level: usize)
 
 // Takes the clause that the hint cites into the analysis.
 fn take(
-    log: &Log,
-    trail: &Trail,
+    reasons: Reasons<'_>,
     seen: &mut Seen,
     analysis: &mut Analysis,
     hint: PackedHint,
 ) -> Result<(), Memory>
-    requires ready { IsReady log.now trail.now.trail }
-    requires size { length seen.old ≡ trail.now.trail.atoms }
+    requires ready { IsReady reasons.log.now reasons.trail.now.trail }
+    requires size { length seen.old ≡ reasons.trail.now.trail.atoms }
     ensures size { OnOk result (length seen.new ≡ length seen.old) }
     ensures clause { OnOk result (analysis.new.clause ≡ analysis.old.clause) }
     ensures hints { OnOk result (analysis.new.hints.items ≡ analysis.old.hints.items ++ hint ∷ []) }
-    ensures marked { OnOk result ((c : List (Signed ℕ)) → cited log.now.added log.now.steps hint ≡ Some c → MarksToo trail.now.trail c seen.old seen.new analysis.old.waiting analysis.new.waiting) }
+    ensures marked { OnOk result ((c : List (Signed ℕ)) → cited reasons.entry.log.now.added reasons.entry.log.now.steps hint ≡ Some c → MarksToo reasons.entry.trail.now.trail c seen.old seen.new analysis.old.waiting analysis.new.waiting) }
 {
     analysis.hints.push(hint)?;
-    mark_all(trail, seen, &mut analysis.waiting, log.cited_clause(hint))
+    let clause = reasons.log.cited_clause(hint);
+    mark_all(reasons.trail, seen, &mut analysis.waiting, clause)
 }
 
 // Lists the place of a fact of level 0 whose clause has other literals.
@@ -190,44 +190,43 @@ fn list_fact(
 
 // Puts what gave the fact of level 0 at the place in its stead: what cites it alone, if that is known.
 fn resolve_fact(
-    log: &Log,
-    trail: &Trail,
+    reasons: Reasons<'_>,
     seen: &mut Seen,
     analysis: &mut Analysis,
     place: usize,
     number: usize,
 ) -> Result<(), Memory>
-    requires ready { IsReady log.now trail.now.trail }
-    requires size { length seen.old ≡ trail.now.trail.atoms }
-    requires place { place < length trail.now.trail.entries }
+    requires ready { IsReady reasons.log.now reasons.trail.now.trail }
+    requires size { length seen.old ≡ reasons.trail.now.trail.atoms }
+    requires place { place < length reasons.trail.now.trail.entries }
     ensures size { OnOk result (length seen.new ≡ length seen.old) }
-    ensures resolved { OnOk result ((e : Entry) → slice_get trail.now.trail.entries place ≡ Some e → e.reason ≡ Some number → Resolves log.now trail.now.trail place e.lit seen.old seen.new analysis.old analysis.new) }
+    ensures resolved { OnOk result ((e : Entry) → slice_get reasons.entry.trail.now.trail.entries place ≡ Some e → e.reason ≡ Some number → Resolves reasons.entry.log.now reasons.entry.trail.now.trail place e.lit seen.old seen.new analysis.old analysis.new) }
 {
-    let hint = log.given_by(literal_at(trail, place), number);
-    list_fact(log, analysis, place, hint)?;
-    take(log, trail, seen, analysis, hint)
+    let lit = literal_at(reasons.trail, place);
+    let hint = reasons.log.given_by(lit, number);
+    list_fact(reasons.log, analysis, place, hint)?;
+    take(reasons, seen, analysis, hint)
 }
 
 // Puts what gave the literal at the place in its stead.
 fn resolve(
-    log: &Log,
-    trail: &Trail,
+    reasons: Reasons<'_>,
     seen: &mut Seen,
     analysis: &mut Analysis,
     place: usize,
     number: usize,
 ) -> Result<(), Memory>
-    requires ready { IsReady log.now trail.now.trail }
-    requires size { length seen.old ≡ trail.now.trail.atoms }
-    requires place { place < length trail.now.trail.entries }
+    requires ready { IsReady reasons.log.now reasons.trail.now.trail }
+    requires size { length seen.old ≡ reasons.trail.now.trail.atoms }
+    requires place { place < length reasons.trail.now.trail.entries }
     ensures size { OnOk result (length seen.new ≡ length seen.old) }
-    ensures resolved { OnOk result ((e : Entry) → slice_get trail.now.trail.entries place ≡ Some e → e.reason ≡ Some number → Resolves log.now trail.now.trail place e.lit seen.old seen.new analysis.old analysis.new) }
+    ensures resolved { OnOk result ((e : Entry) → slice_get reasons.entry.trail.now.trail.entries place ≡ Some e → e.reason ≡ Some number → Resolves reasons.entry.log.now reasons.entry.trail.now.trail place e.lit seen.old seen.new analysis.old analysis.new) }
 {
-    let lit = literal_at(trail, place);
-    if trail.level_of(lit.atom) == Some(0) {
-        return resolve_fact(log, trail, seen, analysis, place, number);
+    let lit = literal_at(reasons.trail, place);
+    if reasons.trail.level_of(lit.atom) == Some(0) {
+        return resolve_fact(reasons, seen, analysis, place, number);
     }
-    take(log, trail, seen, analysis, log.hint_of(number))
+    take(reasons, seen, analysis, reasons.log.hint_of(number))
 }
 
 fn keep(analysis: &mut Analysis, lit: Lit) -> Result<(), Memory>
@@ -241,59 +240,57 @@ fn keep(analysis: &mut Analysis, lit: Lit) -> Result<(), Memory>
 
 // Meets the marked literal at the place.
 fn meet(
-    log: &Log,
-    trail: &Trail,
+    reasons: Reasons<'_>,
     seen: &mut Seen,
     analysis: &mut Analysis,
     place: usize,
 ) -> Result<(), Memory>
-    requires ready { IsReady log.now trail.now.trail }
-    requires size { length seen.old ≡ trail.now.trail.atoms }
-    requires place { place < length trail.now.trail.entries }
-    requires marked { (e : Entry) → slice_get trail.now.trail.entries place ≡ Some e → IsMarked seen.old e.lit.atom }
-    requires met { IsMet log.now trail.now.trail (place + 1) seen.old analysis.old }
+    requires ready { IsReady reasons.log.now reasons.trail.now.trail }
+    requires size { length seen.old ≡ reasons.trail.now.trail.atoms }
+    requires place { place < length reasons.trail.now.trail.entries }
+    requires marked { (e : Entry) → slice_get reasons.trail.now.trail.entries place ≡ Some e → IsMarked seen.old e.lit.atom }
+    requires met { IsMet reasons.log.now reasons.trail.now.trail (place + 1) seen.old analysis.old }
     ensures size { OnOk result (length seen.new ≡ length seen.old) }
-    ensures waiting { OnOk result (AreWaiting trail.now.trail place seen.old analysis.old.waiting.places → AreWaiting trail.now.trail place seen.new analysis.new.waiting.places) }
-    ensures met { OnOk result (IsMet log.now trail.now.trail place seen.new analysis.new) }
+    ensures waiting { OnOk result (AreWaiting reasons.entry.trail.now.trail place seen.old analysis.old.waiting.places → AreWaiting reasons.entry.trail.now.trail place seen.new analysis.new.waiting.places) }
+    ensures met { OnOk result (IsMet reasons.entry.log.now reasons.entry.trail.now.trail place seen.new analysis.new) }
 {
-    let lit = literal_at(trail, place);
-    let level = trail.level_of(lit.atom).unwrap_or(0);
-    match trail.reason(lit.atom) {
+    let lit = literal_at(reasons.trail, place);
+    let level = reasons.trail.level_of(lit.atom).unwrap_or(0);
+    match reasons.trail.reason(lit.atom) {
         None => {
-            count_met(trail, &mut analysis.waiting.present, level);
+            count_met(reasons.trail, &mut analysis.waiting.present, level);
             keep(analysis, lit)
         }
         Some(number) => {
-            let remains = stays(log, trail, seen, analysis, level, number);
-            count_met(trail, &mut analysis.waiting.present, level);
+            let remains = stays(reasons, seen, analysis, level, number);
+            count_met(reasons.trail, &mut analysis.waiting.present, level);
             if remains {
                 return keep(analysis, lit);
             }
-            resolve(log, trail, seen, analysis, place, number)
+            resolve(reasons, seen, analysis, place, number)
         }
     }
 }
 
 // Meets the marked literal at the place, where exactly the decisions stay.
 fn meet_decided(
-    log: &Log,
-    trail: &Trail,
+    reasons: Reasons<'_>,
     seen: &mut Seen,
     analysis: &mut Analysis,
     place: usize,
 ) -> Result<(), Memory>
-    requires ready { IsReady log.now trail.now.trail }
-    requires size { length seen.old ≡ trail.now.trail.atoms }
-    requires place { place < length trail.now.trail.entries }
-    requires marked { (e : Entry) → slice_get trail.now.trail.entries place ≡ Some e → IsMarked seen.old e.lit.atom }
+    requires ready { IsReady reasons.log.now reasons.trail.now.trail }
+    requires size { length seen.old ≡ reasons.trail.now.trail.atoms }
+    requires place { place < length reasons.trail.now.trail.entries }
+    requires marked { (e : Entry) → slice_get reasons.trail.now.trail.entries place ≡ Some e → IsMarked seen.old e.lit.atom }
     ensures size { OnOk result (length seen.new ≡ length seen.old) }
-    ensures waiting { OnOk result (AreWaiting trail.now.trail place seen.old analysis.old.waiting.places → AreWaiting trail.now.trail place seen.new analysis.new.waiting.places) }
-    ensures met { OnOk result ((start : ℕ) (l : Signed ℕ) → place < start → IsMetDecided log.now trail.now.trail start (place + 1) l seen.old analysis.old → IsMetDecided log.now trail.now.trail start place l seen.new analysis.new) }
+    ensures waiting { OnOk result (AreWaiting reasons.entry.trail.now.trail place seen.old analysis.old.waiting.places → AreWaiting reasons.entry.trail.now.trail place seen.new analysis.new.waiting.places) }
+    ensures met { OnOk result ((start : ℕ) (l : Signed ℕ) → place < start → IsMetDecided reasons.entry.log.now reasons.entry.trail.now.trail start (place + 1) l seen.old analysis.old → IsMetDecided reasons.entry.log.now reasons.entry.trail.now.trail start place l seen.new analysis.new) }
 {
-    let lit = literal_at(trail, place);
-    match trail.reason(lit.atom) {
+    let lit = literal_at(reasons.trail, place);
+    match reasons.trail.reason(lit.atom) {
         None => Ok(()),
-        Some(number) => resolve(log, trail, seen, analysis, place, number),
+        Some(number) => resolve(reasons, seen, analysis, place, number),
     }
 }
 
@@ -317,19 +314,18 @@ fn no_analysis(alloc: Global) -> Analysis
 // Marks the clause of this number alone.
 fn begin(
     alloc: Global,
-    log: &Log,
-    trail: &Trail,
+    reasons: Reasons<'_>,
     seen: &mut Seen,
     number: usize,
 ) -> Result<Analysis, Memory>
-    requires ready { IsReady log.now trail.now.trail }
-    requires size { length seen.old ≡ trail.now.trail.atoms }
+    requires ready { IsReady reasons.log.now reasons.trail.now.trail }
+    requires size { length seen.old ≡ reasons.trail.now.trail.atoms }
     ensures size { OnOk result (length seen.new ≡ length seen.old) }
-    ensures begun { IfOk result (λ a. (c : List (Signed ℕ)) → IsNamed log.now number c → IsBegun log.now trail.now.trail number c seen.new a) }
+    ensures begun { IfOk result (λ a. (c : List (Signed ℕ)) → IsNamed reasons.entry.log.now number c → IsBegun reasons.entry.log.now reasons.entry.trail.now.trail number c seen.new a) }
 {
     let mut analysis = no_analysis(alloc);
     seen.clear();
-    take(log, trail, seen, &mut analysis, log.hint_of(number))?;
+    take(reasons, seen, &mut analysis, reasons.log.hint_of(number))?;
     Ok(analysis)
 }
 
@@ -337,24 +333,23 @@ fn begin(
 #[tactic(auto)]
 pub(crate) fn analyze(
     alloc: Global,
-    log: &Log,
-    trail: &Trail,
+    reasons: Reasons<'_>,
     seen: &mut Seen,
     number: usize,
     count: usize,
 ) -> Result<Analysis, Memory>
-    requires ready { IsReady log.now trail.now.trail }
-    requires size { length seen.old ≡ trail.now.trail.atoms }
-    requires count { count ≡ length trail.now.trail.entries }
-    requires conflict { NamesFalse log.now trail.now.trail.entries number }
+    requires ready { IsReady reasons.log.now reasons.trail.now.trail }
+    requires size { length seen.old ≡ reasons.trail.now.trail.atoms }
+    requires count { count ≡ length reasons.trail.now.trail.entries }
+    requires conflict { NamesFalse reasons.log.now reasons.trail.now.trail.entries number }
     ensures size { OnOk result (length seen.new ≡ length seen.old) }
-    ensures analysis { IfOk result (IsAnalysis log.now trail.now.trail.entries) }
+    ensures analysis { IfOk result (IsAnalysis reasons.entry.log.now reasons.entry.trail.now.trail.entries) }
 {
-    let mut analysis = begin(alloc, log, trail, seen, number)?;
+    let mut analysis = begin(alloc, reasons, seen, number)?;
     let mut place = count;
     while let Some(next) = analysis.waiting.places.take_below(place) {
         place = next;
-        meet(log, trail, seen, &mut analysis, place)?;
+        meet(reasons, seen, &mut analysis, place)?;
     }
     analysis.hints.reverse();
     Ok(analysis)
@@ -372,23 +367,22 @@ fn place_of(trail: &Trail, lit: Lit) -> usize
 // Marks the decisions on which a true literal depends that the clause of this number gave, and answers the hints.
 pub(crate) fn analyze_given(
     alloc: Global,
-    log: &Log,
-    trail: &Trail,
+    reasons: Reasons<'_>,
     seen: &mut Seen,
     lit: Lit,
     number: usize,
 ) -> Result<Vec<PackedHint>, Memory>
-    requires ready { IsReady log.now trail.now.trail }
-    requires size { length seen.old ≡ trail.now.trail.atoms }
-    requires given { (e : Entry) × Contains trail.now.trail.entries e × (e.lit ≡ lit) × (e.reason ≡ Some number) }
+    requires ready { IsReady reasons.log.now reasons.trail.now.trail }
+    requires size { length seen.old ≡ reasons.trail.now.trail.atoms }
+    requires given { (e : Entry) × Contains reasons.trail.now.trail.entries e × (e.lit ≡ lit) × (e.reason ≡ Some number) }
     ensures size { OnOk result (length seen.new ≡ length seen.old) }
-    ensures hints { IfOk result (λ hints. ShowsGiven log.now trail.now.trail.entries lit seen.new hints.items) }
+    ensures hints { IfOk result (λ hints. ShowsGiven reasons.entry.log.now reasons.entry.trail.now.trail.entries lit seen.new hints.items) }
 {
-    let mut analysis = begin(alloc, log, trail, seen, number)?;
-    let mut place = place_of(trail, lit);
+    let mut analysis = begin(alloc, reasons, seen, number)?;
+    let mut place = place_of(reasons.trail, lit);
     while let Some(next) = analysis.waiting.places.take_below(place) {
         place = next;
-        meet_decided(log, trail, seen, &mut analysis, place)?;
+        meet_decided(reasons, seen, &mut analysis, place)?;
     }
     analysis.hints.reverse();
     Ok(analysis.hints)

@@ -3,7 +3,7 @@
 ghost use Rattle.std.specs.Prelude.{◌≡◌, ◌<◌, length};
 ghost use Rattle.cdcl_core.specs.Analysis.{IsReady};
 
-use crate::log::Log;
+use crate::reasons::Reasons;
 use crate::seen::Seen;
 use cdcl_trail::Trail;
 
@@ -28,24 +28,24 @@ fn follows_without_clause(trail: &Trail, seen: &Seen, atom: usize) -> Option<boo
 
 // Whether the atom follows from the marked ones by clauses of which at most so many are used one after the other.
 #[cycle(redundancy)]
-fn follows(log: &Log, trail: &Trail, seen: &mut Seen, atom: usize, depth: usize) -> bool
-    requires ready { IsReady log.now trail.now.trail }
-    requires size { length seen.old ≡ trail.now.trail.atoms }
-    requires atom { atom < trail.now.trail.atoms }
+fn follows(reasons: Reasons<'_>, seen: &mut Seen, atom: usize, depth: usize) -> bool
+    requires ready { IsReady reasons.log.now reasons.trail.now.trail }
+    requires size { length seen.old ≡ reasons.trail.now.trail.atoms }
+    requires atom { atom < reasons.trail.now.trail.atoms }
     ensures { seen.new ≡ seen.old }
 {
-    if let Some(found) = follows_without_clause(trail, seen, atom) {
+    if let Some(found) = follows_without_clause(reasons.trail, seen, atom) {
         return found;
     }
     if depth == 0 {
         return false;
     }
-    match trail.reason(atom) {
+    match reasons.trail.reason(atom) {
         None => false,
         Some(number) => {
             // It is an atom of this clause itself.
             seen.find(atom, true);
-            let found = all_follow(log, trail, seen, number, depth - 1);
+            let found = all_follow(reasons, seen, number, depth - 1);
             seen.find(atom, found);
             found
         }
@@ -54,19 +54,13 @@ fn follows(log: &Log, trail: &Trail, seen: &mut Seen, atom: usize, depth: usize)
 
 // Whether all atoms of the clause of this number do.
 #[cycle(redundancy)]
-pub(crate) fn all_follow(
-    log: &Log,
-    trail: &Trail,
-    seen: &mut Seen,
-    number: usize,
-    depth: usize,
-) -> bool
-    requires ready { IsReady log.now trail.now.trail }
-    requires size { length seen.old ≡ trail.now.trail.atoms }
+pub(crate) fn all_follow(reasons: Reasons<'_>, seen: &mut Seen, number: usize, depth: usize) -> bool
+    requires ready { IsReady reasons.log.now reasons.trail.now.trail }
+    requires size { length seen.old ≡ reasons.trail.now.trail.atoms }
     ensures { seen.new ≡ seen.old }
 {
-    for packed in log.cited_clause(log.hint_of(number)) {
-        if !follows(log, trail, seen, packed.lit().atom, depth) {
+    for packed in reasons.log.cited_clause(reasons.log.hint_of(number)) {
+        if !follows(reasons, seen, packed.lit().atom, depth) {
             return false;
         }
     }

@@ -26,7 +26,7 @@ use crate::learned::Learned;
 use crate::log::Log;
 use crate::packed_hint::PackedHint;
 use crate::phases::Phases;
-use crate::reasons::mark_reasons;
+use crate::reasons::{Reasons, mark_reasons};
 use crate::restart::Restarts;
 use crate::seen::Seen;
 use crate::settings::Settings;
@@ -484,19 +484,16 @@ impl Search {
         ensures added { self.new.log.added ≡ self.old.log.added }
     {
         let count = self.back_to_conflict(number);
-        let analysis = analyze(
-            self.alloc,
-            &self.log,
-            &self.trail,
-            &mut self.seen,
-            number,
-            count,
-        )?;
+        let reasons = Reasons {
+            log: &self.log,
+            trail: &self.trail,
+        };
+        let analysis = analyze(self.alloc, reasons, &mut self.seen, number, count)?;
         if analysis.clause.is_empty() {
             let core = LitList::new(self.alloc);
             return Ok(Some(self.refutation_answer(core, analysis.hints)?));
         }
-        mark_reasons(&self.log, &self.trail, &mut self.seen, &analysis.clause);
+        mark_reasons(reasons, &mut self.seen, &analysis.clause);
         self.activity.see_conflict(self.seen.atoms());
         self.learn(analysis)?;
         Ok(None)
@@ -541,14 +538,12 @@ impl Search {
         match self.trail.reason(lit.atom) {
             None => self.clash(assumptions, lit),
             Some(number) => {
-                let hints = analyze_given(
-                    self.alloc,
-                    &self.log,
-                    &self.trail,
-                    &mut self.seen,
-                    complement(lit),
-                    number,
-                )?;
+                let reasons = Reasons {
+                    log: &self.log,
+                    trail: &self.trail,
+                };
+                let given = complement(lit);
+                let hints = analyze_given(self.alloc, reasons, &mut self.seen, given, number)?;
                 self.activity.see_conflict(self.seen.atoms());
                 let core = core_of(self.alloc, &self.trail, &self.seen, lit, assumptions)?;
                 self.refutation_answer(core, hints)

@@ -10,16 +10,16 @@ loop-next-init c =
     record {
       within = omega (arith, c.requires.count);
       size = c.in_ok-analysis.ensures.size ∙ c.requires.size;
-      met = met_first c.args.log.now c.args.trail.now.trail c.args.count c.args.number c.begin.new.seen c.in_ok-analysis.analysis c.requires.count c.requires.conflict begun;
+      met = met_first c.args.reasons.log.now c.args.reasons.trail.now.trail c.args.count c.args.number c.begin.new.seen c.in_ok-analysis.analysis c.requires.count c.requires.conflict begun;
       waiting = begun.waiting c.args.count;
     }
 
 pub meet-requires-clause-met : goal.meet-requires-clause-met
-meet-requires-clause-met c = met_taken c.args.log.now c.args.trail.now.trail c.loop-next.place c.in-Some.next c.loop-next.seen c.take_below.new.self c.loop-next.analysis c.in-Some.ensures.some c.loop-next.invariant.waiting c.loop-next.invariant.met
+meet-requires-clause-met c = met_taken c.args.reasons.log.now c.args.reasons.trail.now.trail c.loop-next.place c.in-Some.next c.loop-next.seen c.take_below.new.self c.loop-next.analysis c.in-Some.ensures.some c.loop-next.invariant.waiting c.loop-next.invariant.met
 
 pub loop-next-preserved : goal.loop-next-preserved
 loop-next-preserved c =
-    let t = c.args.trail.now.trail in
+    let t = c.args.reasons.trail.now.trail in
     let x = c.loop-next.invariant in
     record {
       within = omega (arith, x.within, c.in-Some.ensures.some.below);
@@ -30,8 +30,8 @@ loop-next-preserved c =
 
 pub returns-clause-analysis : goal.returns-clause-analysis
 returns-clause-analysis c =
-    let t = c.args.trail.now.trail in
+    let t = c.args.reasons.trail.now.trail in
     let a = c.loop-next.analysis in
     let b : Analysis = record a { hints = c.reverse.new.self; waiting = record { present = a.waiting.present; places = c.take_below.new.self } } in
-    analysis_done c.args.log.now t c.loop-next.place c.loop-next.seen a b c.requires.ready.trail
+    analysis_done c.args.reasons.log.now t c.loop-next.place c.loop-next.seen a b c.requires.ready.trail
     (λ F. covers_none t c.loop-next.place c.loop-next.seen a.waiting.places F c.in_default.ensures.none c.loop-next.invariant.waiting) refl c.reverse.ensures.items c.loop-next.invariant.met

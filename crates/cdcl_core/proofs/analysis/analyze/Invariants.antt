@@ -4,10 +4,10 @@ use Rattle.cdcl_core.proofs.analysis.analyze.Given as goal
 
 abbrev pub invariant-loop-next : goal.invariant-loop-next
 invariant-loop-next l = record {
-  within : l.place ≤ length l.trail.trail.entries;
-  size : length l.seen ≡ l.trail.trail.atoms;
-  met : IsMet l.log l.trail.trail l.place l.seen l.analysis;
-  waiting : AreWaiting l.trail.trail l.place l.seen l.analysis.waiting.places;
+  within : l.place ≤ length l.reasons.trail.now.trail.entries;
+  size : length l.seen ≡ l.reasons.trail.now.trail.atoms;
+  met : IsMet l.reasons.log.now l.reasons.trail.now.trail l.place l.seen l.analysis;
+  waiting : AreWaiting l.reasons.trail.now.trail l.place l.seen l.analysis.waiting.places;
 }
 
 abbrev pub decreases-loop-next : goal.decreases-loop-next

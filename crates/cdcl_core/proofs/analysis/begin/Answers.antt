@@ -7,10 +7,10 @@ use Rattle.cdcl_core.proofs.analysis.begin.Goals as goal
 
 pub returns-clause-begun : goal.returns-clause-begun
 returns-clause-begun c = λ d named.
-    let t = c.args.trail.now.trail in
+    let t = c.args.reasons.trail.now.trail in
     let f = c.in_ok-take.ensures in
     let is = c.hint_of.ensures named.0 named.1 in
-    let too = f.marked d (ap (cited c.args.log.now.added c.args.log.now.steps) is ∙ named.2) in
+    let too = f.marked d (ap (cited c.args.reasons.log.now.added c.args.reasons.log.now.steps) is ∙ named.2) in
     let o = c.no_analysis-analysis.result.waiting in
     let n = length c.args.seen.now in
     record {

@@ -14,7 +14,7 @@ use Rattle.cdcl_core.proofs.analysis.meet.Goals as goal
 
 pub returns-in-None-clause-met : goal.returns-in-None-clause-met
 returns-in-None-clause-met c =
-    let t = c.args.trail.now.trail in
+    let t = c.args.reasons.trail.now.trail in
     let v = c.requires.ready.trail in
     let a = c.args.analysis.now in
     let i = c.args.place in
@@ -30,20 +30,20 @@ returns-in-None-clause-met c =
     let high = All-slice_get (λ d. IsDecision d → 0 < d.level) t.entries v.above i e f.1 chosen in
     let was : Waiting = record { present = c.count_met.new.present; places = a.waiting.places } in
     let b = c.keep.new.analysis in
-    on_ok_three c.keep.result (b.clause.items ≡ a.clause.items ++ complement c.literal_at-lit.result ∷ []) (b.hints ≡ a.hints) (b.waiting ≡ was) (IsMet c.args.log.now t i marks b)
-    (λ grown same waiting. met_kept c.args.log.now t i e marks a b f.1 mark high (λ none. below_decided t i e marks v f.1 chosen)
+    on_ok_three c.keep.result (b.clause.items ≡ a.clause.items ++ complement c.literal_at-lit.result ∷ []) (b.hints ≡ a.hints) (b.waiting ≡ was) (IsMet c.args.reasons.log.now t i marks b)
+    (λ grown same waiting. met_kept c.args.reasons.log.now t i e marks a b f.1 mark high (λ none. below_decided t i e marks v f.1 chosen)
     (grown ∙ ap (λ l. a.clause.items ++ complement l ∷ []) is) (ap (λ x. x.items) same) (subst (λ o. AreCounted t i marks o.present) (sym waiting) counted) c.requires.met)
     c.keep.ensures.clause c.keep.ensures.hints c.keep.ensures.waiting
 
 pub returns-then-remains-clause-met : goal.returns-then-remains-clause-met
 returns-then-remains-clause-met c =
-    let t = c.args.trail.now.trail in
+    let t = c.args.reasons.trail.now.trail in
     let v = c.requires.ready.trail in
     let a = c.args.analysis.now in
     let i = c.args.place in
     let marks = c.stays-remains.new.seen in
     let back = sym c.stays-remains.ensures.same in
-    let met = subst (λ m. IsMet c.args.log.now t (i + 1) m a) back c.requires.met in
+    let met = subst (λ m. IsMet c.args.reasons.log.now t (i + 1) m a) back c.requires.met in
     let f = entry_at t.entries i (record { positive = false; atom = 0 }) c.requires.place in
     let e = f.0 in
     let inside = Contains-slice_get t.entries i e f.1 in
@@ -55,22 +55,22 @@ returns-then-remains-clause-met c =
     let remains = c.stays-remains.ensures.stays c.if-remains.true in
     let was : Waiting = record { present = c.count_met-in-Some.new.present; places = a.waiting.places } in
     let b = c.keep-then-remains.new.analysis in
-    on_ok_three c.keep-then-remains.result (b.clause.items ≡ a.clause.items ++ complement c.literal_at-lit.result ∷ []) (b.hints ≡ a.hints) (b.waiting ≡ was) (IsMet c.args.log.now t i marks b)
-    (λ grown same waiting. met_kept c.args.log.now t i e marks a b f.1 mark (subst (λ k. 0 < k) (sym level) remains.0)
+    on_ok_three c.keep-then-remains.result (b.clause.items ≡ a.clause.items ++ complement c.literal_at-lit.result ∷ []) (b.hints ≡ a.hints) (b.waiting ≡ was) (IsMet c.args.reasons.log.now t i marks b)
+    (λ grown same waiting. met_kept c.args.reasons.log.now t i e marks a b f.1 mark (subst (λ k. 0 < k) (sym level) remains.0)
     (λ none. let r = remains.1 none in below_unique t i e marks a.waiting.present v f.1 mark (level ∙ r.0) r.1 met.counted)
     (grown ∙ ap (λ l. a.clause.items ++ complement l ∷ []) is) (ap (λ x. x.items) same) (subst (λ o. AreCounted t i marks o.present) (sym waiting) counted) met)
     c.keep-then-remains.ensures.clause c.keep-then-remains.ensures.hints c.keep-then-remains.ensures.waiting
 
 pub returns-else-remains-clause-met : goal.returns-else-remains-clause-met
 returns-else-remains-clause-met c =
-    let t = c.args.trail.now.trail in
-    let log = c.args.log.now in
+    let t = c.args.reasons.trail.now.trail in
+    let log = c.args.reasons.log.now in
     let v = c.requires.ready.trail in
     let a = c.args.analysis.now in
     let i = c.args.place in
     let marks = c.stays-remains.new.seen in
     let back = sym c.stays-remains.ensures.same in
-    let met = subst (λ m. IsMet c.args.log.now t (i + 1) m a) back c.requires.met in
+    let met = subst (λ m. IsMet c.args.reasons.log.now t (i + 1) m a) back c.requires.met in
     let f = entry_at t.entries i (record { positive = false; atom = 0 }) c.requires.place in
     let e = f.0 in
     let inside = Contains-slice_get t.entries i e f.1 in
@@ -89,8 +89,8 @@ returns-else-remains-clause-met c =
 
 pub returns-else-remains-clause-waiting : goal.returns-else-remains-clause-waiting
 returns-else-remains-clause-waiting c =
-    let t = c.args.trail.now.trail in
-    let log = c.args.log.now in
+    let t = c.args.reasons.trail.now.trail in
+    let log = c.args.reasons.log.now in
     let a = c.args.analysis.now in
     let i = c.args.place in
     let marks = c.stays-remains.new.seen in

@@ -10,18 +10,18 @@ use Rattle.cdcl_core.proofs.analysis.meet_decided.Goals as goal
 
 pub returns-in-None-clause-met : goal.returns-in-None-clause-met
 returns-in-None-clause-met c = λ start l low m.
-    let t = c.args.trail.now.trail in
+    let t = c.args.reasons.trail.now.trail in
     let f = entry_at t.entries c.args.place (record { positive = false; atom = 0 }) c.requires.place in
     let e = f.0 in
     let inside = Contains-slice_get t.entries c.args.place e f.1 in
     let is = c.literal_at-lit.ensures.literal e f.1 in
     let chosen = reason_read t e c.literal_at-lit.result c.reason.result c.requires.ready.trail inside is c.reason.ensures ∙ c.in-None.is in
-    met_decided_kept c.args.log.now t start c.args.place l e c.args.seen.now c.args.analysis.now low f.1 (c.requires.marked e f.1) chosen m
+    met_decided_kept c.args.reasons.log.now t start c.args.place l e c.args.seen.now c.args.analysis.now low f.1 (c.requires.marked e f.1) chosen m
 
 pub returns-in-Some-clause-met : goal.returns-in-Some-clause-met
 returns-in-Some-clause-met c =
-    let t = c.args.trail.now.trail in
-    let log = c.args.log.now in
+    let t = c.args.reasons.trail.now.trail in
+    let log = c.args.reasons.log.now in
     let a = c.args.analysis.now in
     let b = c.resolve.new.analysis in
     let n = c.in-Some.number in
@@ -38,8 +38,8 @@ returns-in-Some-clause-met c =
 
 pub returns-in-Some-clause-waiting : goal.returns-in-Some-clause-waiting
 returns-in-Some-clause-waiting c =
-    let t = c.args.trail.now.trail in
-    let log = c.args.log.now in
+    let t = c.args.reasons.trail.now.trail in
+    let log = c.args.reasons.log.now in
     let a = c.args.analysis.now in
     let b = c.resolve.new.analysis in
     let n = c.in-Some.number in

@@ -9,8 +9,8 @@ use Rattle.cdcl_core.proofs.analysis.resolve.Goals as goal
 
 pub returns-clause-resolved : goal.returns-clause-resolved
 returns-clause-resolved c =
-    let t = c.args.trail.now.trail in
-    let log = c.args.log.now in
+    let t = c.args.reasons.trail.now.trail in
+    let log = c.args.reasons.log.now in
     let i = c.args.place in
     let hint = c.hint_of.result in
     let a = c.args.analysis.now in

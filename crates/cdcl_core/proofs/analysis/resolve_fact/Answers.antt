@@ -10,8 +10,8 @@ use Rattle.cdcl_core.proofs.analysis.resolve_fact.Goals as goal
 
 pub returns-clause-resolved : goal.returns-clause-resolved
 returns-clause-resolved c =
-    let t = c.args.trail.now.trail in
-    let log = c.args.log.now in
+    let t = c.args.reasons.trail.now.trail in
+    let log = c.args.reasons.log.now in
     let i = c.args.place in
     let before = take i t.entries in
     let hint = c.given_by-hint.result in
@@ -25,7 +25,7 @@ returns-clause-resolved c =
     ((e : Entry) → slice_get t.entries i ≡ Some e → e.reason ≡ Some c.args.number → Resolves log t i e.lit marks new a b)
     (λ clause hints marked e at reason.
     let why = c.requires.ready.implied i c.args.number e at reason in
-    let is = c.literal_at.ensures.literal e at in
+    let is = c.literal_at-lit.ensures.literal e at in
     let g = c.given_by-hint.ensures before why.0 why.1 (subst (GivesUnit before why.0) (sym is) why.2) in
     record {
       hint = hint;

@@ -24,7 +24,7 @@ pub analyze_given-requires-clause-given : goal.analyze_given-requires-clause-giv
 analyze_given-requires-clause-given c =
     let s = c.args.self.now in
     let f = false_entry s.trail.trail c.args.lit c.reason.result c.requires.trail c.requires.refuted c.reason.ensures in
-    (f.0, f.1, f.2 ∙ sym c.complement.ensures, f.3 ∙ c.in-Some.is)
+    (f.0, f.1, f.2 ∙ sym c.complement-given.ensures, f.3 ∙ c.in-Some.is)
 
 pub refutation_answer-requires-clause-atoms : goal.refutation_answer-requires-clause-atoms
 refutation_answer-requires-clause-atoms c = core_atoms c.args.self.now.trail.trail.atoms c.args.assumptions.now c.in_ok-core-in-Some.core c.requires.atoms c.in_ok-core-in-Some.ensures.within
@@ -34,4 +34,4 @@ refutation_answer-requires-clause-closes c =
     let s = c.args.self.now in
     let marks = c.analyze_given.new.seen in
     core_closes s marks c.args.assumptions.now c.in_ok-core-in-Some.core c.args.lit c.in_ok-hints-in-Some.hints.items c.requires.trail c.requires.level c.requires.search c.requires.assumption c.in_ok-core-in-Some.ensures
-    (subst (λ l. ShowsGiven s.log s.trail.trail.entries l marks c.in_ok-hints-in-Some.hints.items) c.complement.ensures c.in_ok-hints-in-Some.ensures.hints)
+    (subst (λ l. ShowsGiven s.log s.trail.trail.entries l marks c.in_ok-hints-in-Some.hints.items) c.complement-given.ensures c.in_ok-hints-in-Some.ensures.hints)
