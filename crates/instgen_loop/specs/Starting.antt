@@ -15,6 +15,10 @@ use Rattle.instgen_loop.specs.declared.state.Run.{Run}
 use Rattle.instgen_loop.specs.Logs.{no_solves}
 use Rattle.instgen_loop.specs.Loops.{items}
 
+-- the solver has no atoms and no clauses
+abbrev pub IsNew : {S : Type 0} → (S → ℕ) → (S → List (List (Signed ℕ))) → S → Type 0
+IsNew atoms added s = (atoms s ≡ 0) × (added s ≡ [])
+
 -- nothing happened yet, and there are no entries
 pub record IsFresh {S I C : Type 0} (atoms : S → ℕ) (added : S → List (List (Signed ℕ))) (pairs : I → List Posting) (r : Run S I C) : Type 0 where
   pub bank : AreFormed r.entries.bank

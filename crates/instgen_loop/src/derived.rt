@@ -8,6 +8,7 @@ ghost use Rattle.instgen_loop.specs.Clauses.{Item};
 ghost use Rattle.instgen_loop.specs.Derived.{AreRefutedLines, IsDerived, IsEmptyGround, IsNoPart};
 ghost use Rattle.instgen_loop.specs.Grounds.{IsLinked};
 ghost use Rattle.instgen_loop.specs.LineNumbers.{clauses_of};
+ghost use Rattle.instgen_loop.specs.Starting.{IsNew};
 
 use crate::ground::{Ground, add_entry};
 use crate::origin::{Origins, origin_of};
@@ -96,8 +97,7 @@ fn ask_anew<S: Solver>(
     solver: S,
     lines: &GroundLineList,
 ) -> Result<(), Memory>
-    requires atoms { S.atoms solver ≡ 0 }
-    requires added { S.added solver ≡ [] }
+    requires solver { IsNew S.atoms S.added solver }
     requires formed { AreFormed run.old.remains.bank }
     requires refuted { AreRefutedLines run.old.remains.bank lines.now }
     ensures extends { OnOk result (Extends run.old.remains.bank run.new.remains.bank) }
@@ -125,8 +125,7 @@ pub fn derive<S: Solver>(
     last: S,
     lines: &GroundLineList,
 ) -> Result<(), Memory>
-    requires atoms { S.atoms last ≡ 0 }
-    requires added { S.added last ≡ [] }
+    requires last { IsNew S.atoms S.added last }
     requires formed { AreFormed run.old.remains.bank }
     requires refuted { AreRefutedLines run.old.remains.bank lines.now }
     requires carried { All (λ (e : Item). IsNoPart e.1) run.old.remains.clauses.entries → AreDistinct run.old.remains.bank.trees → IsDerived run.old lines.now }

@@ -3,6 +3,7 @@ ghost use Rattle.std.specs.Prelude.{◌≡◌, [], IfOk};
 ghost use Rattle.instgen_loop.specs.Endings.{IsEnding, IsEndingAfter, entries_left};
 ghost use Rattle.instgen_loop.specs.Marks.{IsLogOf, events_of};
 ghost use Rattle.instgen_loop.specs.Outcomes.{journal_of};
+ghost use Rattle.instgen_loop.specs.Starting.{IsNew};
 ghost use Rattle.instgen_loop.specs.Tasks.{IsOutcomeFor};
 
 use crate::event::Journal;
@@ -57,8 +58,7 @@ fn outcome_after<S: Solver>(
     journal: Journal,
 ) -> Result<Outcome, Memory>
     requires ending { IsEnding task.now ending journal }
-    requires atoms { S.atoms last ≡ 0 }
-    requires added { S.added last ≡ [] }
+    requires last { IsNew S.atoms S.added last }
     ensures outcome { IfOk result (IsOutcomeFor task.now) }
     ensures journal { IfOk result (λ o. journal_of o ≡ journal) }
 {
@@ -96,8 +96,7 @@ pub fn outcome_of<S: Solver>(
     log: &EventLog,
 ) -> Result<Outcome, Memory>
     requires ending { IsEndingAfter task.now ending log.now }
-    requires atoms { S.atoms last ≡ 0 }
-    requires added { S.added last ≡ [] }
+    requires last { IsNew S.atoms S.added last }
     ensures outcome { IfOk result (IsOutcomeFor task.now) }
     ensures journal { IfOk result (λ o. journal_of o ≡ events_of log.now (entries_left ending)) }
 {

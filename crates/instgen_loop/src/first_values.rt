@@ -6,11 +6,11 @@ ghost use Rattle.prop_logic.specs.Literal.{AtomsBelow};
 ghost use Rattle.cert_values.specs.Wholes.{IsWholeClause};
 ghost use Rattle.term_bank.specs.Forest.{IsClauseOf};
 
-use crate::start::{Given, IdClauses, greater, literals_after, next_number};
+use crate::start::{Given, greater, literals_after, next_number};
 use inst_logic::Memory;
 use prop_logic::{Answer, Lit, Solver, Valuation, make_atoms};
 use std::alloc::Global;
-use term_bank::{Bank, IdLiteral};
+use term_bank::{Bank, IdClauseList, IdLiteral};
 
 // Whether some literal has a variable.
 fn has_variable(bank: &Bank, literals: &[IdLiteral]) -> bool
@@ -25,7 +25,7 @@ fn has_variable(bank: &Bank, literals: &[IdLiteral]) -> bool
 }
 
 // Whether some clause has one.
-fn have_variables(bank: &Bank, clauses: &IdClauses) -> bool
+fn have_variables(bank: &Bank, clauses: &IdClauseList) -> bool
     requires { All (IsWholeClause bank.now) clauses.now }
 {
     for i in 0..clauses.len() {
@@ -90,7 +90,7 @@ fn add_clause<S: Solver>(
 fn add_clauses<S: Solver>(
     bank: &Bank,
     solver: &mut S,
-    clauses: &IdClauses,
+    clauses: &IdClauseList,
     lits: &mut Vec<Lit>,
     atoms: usize,
 ) -> Result<usize, Memory>

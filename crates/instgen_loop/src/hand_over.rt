@@ -4,14 +4,14 @@ ghost use Rattle.std.specs.Prelude.{◌≡◌, map, IfOk};
 ghost use Rattle.instgen_loop.specs.Refuting.{member_of, remains_of, base_from};
 
 use crate::origin::Origins;
-use crate::start::{Given, IdClauses, copied_clause, literals_after};
+use crate::start::Given;
 use crate::state::Run;
 use cert_values::{Base, Member, MemberList};
 use inst_logic::{Memory, NameList, Problem};
 use prop_logic::Solver;
 use std::alloc::Global;
 use std::mem::replace;
-use term_bank::{Bank, IdClauseList};
+use term_bank::Bank;
 use term_index::PartnerIndex;
 
 /// What a run leaves to a certificate: its bank, its entries, and what it was given.
@@ -62,42 +62,6 @@ fn copied_names(alloc: Global, names: &NameList) -> Result<NameList, Memory>
     Ok(NameList::from(copy))
 }
 
-// The clauses as certificates have them.
-fn clause_list(alloc: Global, clauses: IdClauses) -> Result<IdClauseList, Memory>
-    ensures { IfOk result (λ list. list ≡ clauses) }
-{
-    let mut list = Vec::with_capacity(alloc, clauses.len())?;
-    for i in 0..clauses.len() {
-        let clause = copied_clause(alloc, literals_after(&clauses, i))?;
-        list.push(clause)?;
-    }
-    Ok(IdClauseList::from(list))
-}
-
-// What a base tells of the problem.
-#[derive(Drop)]
-struct Told {
-    inputs: IdClauseList,
-    names: NameList,
-    axioms: IdClauseList,
-}
-
-// The given clauses as certificates have them, with the names.
-fn told_of(alloc: Global, p: &Problem, given: Given) -> Result<Told, Memory>
-    ensures inputs { IfOk result (λ t. t.inputs ≡ given.inputs) }
-    ensures names { IfOk result (λ t. t.names ≡ p.now.names) }
-    ensures axioms { IfOk result (λ t. t.axioms ≡ given.axioms) }
-{
-    let inputs = clause_list(alloc, given.inputs)?;
-    let names = copied_names(alloc, &p.names)?;
-    let axioms = clause_list(alloc, given.axioms)?;
-    Ok(Told {
-        inputs,
-        names,
-        axioms,
-    })
-}
-
 /// The base of a certificate: the run's entries become its members, and the run's bank is its bank.
 pub fn base_of(alloc: Global, p: &Problem, remains: Remains) -> Result<Base, Memory>
     ensures { IfOk result (λ b. b ≡ base_from p.now.names remains) }
@@ -108,12 +72,12 @@ pub fn base_of(alloc: Global, p: &Problem, remains: Remains) -> Result<Base, Mem
         given,
     } = remains;
     let members = members_of(alloc, clauses)?;
-    let told = told_of(alloc, p, given)?;
+    let names = copied_names(alloc, &p.names)?;
     Ok(Base {
         bank,
-        inputs: told.inputs,
-        names: told.names,
-        axioms: told.axioms,
+        inputs: given.inputs,
+        names,
+        axioms: given.axioms,
         members,
     })
 }

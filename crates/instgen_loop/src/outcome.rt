@@ -7,7 +7,7 @@ ghost use Rattle.inst_logic.specs.WellFormed.{is_constant};
 ghost use Rattle.inst_calculus.specs.Abstraction.{IsBot};
 ghost use Rattle.instgen_loop.specs.Endings.{IsEndingAfter, entries_left};
 ghost use Rattle.instgen_loop.specs.Marks.{events_of};
-ghost use Rattle.instgen_loop.specs.Starting.{IsFresh, IsAllowed};
+ghost use Rattle.instgen_loop.specs.Starting.{IsNew, IsFresh, IsAllowed};
 ghost use Rattle.instgen_loop.specs.Tasks.{IsOutcomeFor, IsWithinBudget};
 ghost use Rattle.instgen_loop.specs.Outcomes.{IsOutcome, IsDecided, appended_count, journal_of};
 
@@ -124,8 +124,8 @@ fn ended_run<S: Solver, I: PartnerIndex>(
     indexes: Indexes<I>,
     choices: Choices<S>,
 ) -> Result<EndedRun, Memory>
-    requires atoms { (S.atoms solvers.abstractions ≡ 0) × (S.atoms solvers.known ≡ 0) }
-    requires added { (S.added solvers.abstractions ≡ []) × (S.added solvers.known ≡ []) }
+    requires abstractions { IsNew S.atoms S.added solvers.abstractions }
+    requires known { IsNew S.atoms S.added solvers.known }
     requires positive { I.pairs indexes.selected.positive ≡ [] }
     requires negative { I.pairs indexes.selected.negative ≡ [] }
     requires first { I.pairs indexes.first ≡ [] }
@@ -155,8 +155,7 @@ fn outcome_where_ended<S: Solver>(
 ) -> Result<Option<Outcome>, Memory>
     requires ending { IfSome run.ending (λ e. IsEndingAfter task.now e run.log) }
     requires appended { IfSome run.ending (λ e. IsWithinBudget task.now (events_of run.log (entries_left e))) }
-    requires atoms { S.atoms last ≡ 0 }
-    requires added { S.added last ≡ [] }
+    requires last { IsNew S.atoms S.added last }
     ensures outcome { IfOk result (λ o. IfSome o (IsOutcomeFor task.now)) }
     ensures appended { IfOk result (λ o. IfSome o (λ it. IsWithinBudget task.now (journal_of it))) }
     ensures ended { IsSome run.ending → IfOk result IsSome }
@@ -175,9 +174,8 @@ fn outcome_where_ended<S: Solver>(
 /// conclusion of which they imply a proper part is cut to such a part; `last` is asked for a derivation from the ground lines of a
 /// refutation whose members have such parts. The budget counts the symbols and variables of the entries that are appended; it does
 /// not count on problems without function symbols, where the entries are bounded anyway. An empty part has no symbols, and nothing
-/// is appended after one. There
-/// is room for 2^32 - 1 literals of the problem's clauses, for as many of their axioms and of entries, for as many changes of atoms
-/// over all solves, and for 2^31 different ground atoms: beyond that it wants memory.
+/// is appended after one. There is room for 2^32 - 1 literals of entries, for as many changes of atoms over all solves, and for 2^31
+/// different ground atoms: beyond that it wants memory.
 pub fn run<S: Solver, I: PartnerIndex>(
     alloc: Global,
     p: &Problem,
@@ -189,12 +187,9 @@ pub fn run<S: Solver, I: PartnerIndex>(
     first: I,
     budget: u64,
 ) -> Result<Outcome, Memory>
-    requires atoms { S.atoms solver ≡ 0 }
-    requires added { S.added solver ≡ [] }
-    requires known_atoms { S.atoms known ≡ 0 }
-    requires known_added { S.added known ≡ [] }
-    requires last_atoms { S.atoms last ≡ 0 }
-    requires last_added { S.added last ≡ [] }
+    requires solver { IsNew S.atoms S.added solver }
+    requires known { IsNew S.atoms S.added known }
+    requires last { IsNew S.atoms S.added last }
     requires positive { I.pairs positive ≡ [] }
     requires negative { I.pairs negative ≡ [] }
     requires first { I.pairs first ≡ [] }
@@ -237,12 +232,9 @@ pub fn run_with<S: Solver, I: PartnerIndex>(
     budget: u64,
     choices: Choices<S>,
 ) -> Result<Option<Outcome>, Memory>
-    requires atoms { S.atoms solver ≡ 0 }
-    requires added { S.added solver ≡ [] }
-    requires known_atoms { S.atoms known ≡ 0 }
-    requires known_added { S.added known ≡ [] }
-    requires last_atoms { S.atoms last ≡ 0 }
-    requires last_added { S.added last ≡ [] }
+    requires solver { IsNew S.atoms S.added solver }
+    requires known { IsNew S.atoms S.added known }
+    requires last { IsNew S.atoms S.added last }
     requires positive { I.pairs positive ≡ [] }
     requires negative { I.pairs negative ≡ [] }
     requires first { I.pairs first ≡ [] }

@@ -10,7 +10,7 @@ ghost use Rattle.instgen_loop.specs.Refuting.{refuted_from};
 ghost use Rattle.instgen_loop.specs.ShownRuns.{IsMadeOf, IsShownOf};
 ghost use Rattle.instgen_loop.specs.Marks.{events_of};
 ghost use Rattle.instgen_loop.specs.Running.{IsRunningFor, events_so_far};
-ghost use Rattle.instgen_loop.specs.Starting.{IsOfProblem};
+ghost use Rattle.instgen_loop.specs.Starting.{IsNew, IsOfProblem};
 ghost use Rattle.instgen_loop.specs.Tasks.{all_clauses};
 
 use crate::derived::derive;
@@ -83,8 +83,7 @@ fn shown_of<S: Solver>(
     journal: &Journal,
 ) -> Result<Shown, Memory>
     requires refuted { IsRefuted p.now.clauses p.now.names run.old journal.now }
-    requires atoms { S.atoms last ≡ 0 }
-    requires added { S.added last ≡ [] }
+    requires last { IsNew S.atoms S.added last }
     ensures shown { IfOk result (IsShownOf p.now.clauses p.now.names run.new journal.now) }
 {
     let grounds = lines_of(alloc, p, run, journal)?;
@@ -122,8 +121,7 @@ pub fn refutation_of<S: Solver>(
     journal: &Journal,
 ) -> Result<Refutation, Memory>
     requires refuted { IsRefuted p.now.clauses p.now.names run journal.now }
-    requires atoms { S.atoms last ≡ 0 }
-    requires added { S.added last ≡ [] }
+    requires last { IsNew S.atoms S.added last }
     ensures refutation { IfOk result (λ r. IsRefutedRun p.now.clauses p.now.names r journal.now) }
 {
     match shown_of(alloc, p, &mut run, last, journal) {

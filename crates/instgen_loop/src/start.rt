@@ -12,7 +12,7 @@ ghost use Rattle.cert_format.specs.Printable.{IsPrintableClause};
 ghost use Rattle.instgen_select.specs.Queues.{numbers};
 ghost use Rattle.instgen_loop.specs.Loops.{IsConsistent, items, after};
 ghost use Rattle.instgen_loop.specs.Running.{IsRunningWith};
-ghost use Rattle.instgen_loop.specs.Starting.{IsFresh, IsAllowed, AreGiven, IsOfProblem};
+ghost use Rattle.instgen_loop.specs.Starting.{IsNew, IsFresh, IsAllowed, AreGiven, IsOfProblem};
 ghost use Rattle.instgen_loop.specs.Tasks.{all_clauses};
 ghost use Rattle.instgen_loop.specs.FirstEntries.{Continues, IsStarted};
 
@@ -26,7 +26,7 @@ use crate::selection::Selection;
 use crate::state::{Run, append};
 use crate::task::Task;
 use clause_form::long_tautology;
-use compact_lists::{FlatClauses, FlatLists};
+use compact_lists::FlatClauses;
 use equality_axioms::axioms_of;
 use global_subs::Known;
 use ground_abs::Abstraction;
@@ -34,19 +34,16 @@ use inst_logic::{ClauseList, Memory, Problem, Sym};
 use instgen_select::Passive;
 use prop_logic::{Solver, Valuation};
 use std::alloc::Global;
-use term_bank::{Bank, IdClause, IdLiteral};
+use term_bank::{Bank, IdClause, IdClauseList, IdLiteral};
 use term_index::PartnerIndex;
 use unify_core::Bindings;
-
-/// Clauses over a bank, one after the other in one list of literals.
-pub type IdClauses = FlatLists<IdLiteral>;
 
 /// What certificates tell of the problem beside the names of its clauses: the clauses and their axioms of equality, over the bank
 /// of a run.
 #[derive(Drop)]
 pub struct Given {
-    pub inputs: IdClauses,
-    pub axioms: IdClauses,
+    pub inputs: IdClauseList,
+    pub axioms: IdClauseList,
 }
 
 fn no_entries<I: PartnerIndex>(alloc: Global, first: I) -> Entries<I>
@@ -91,8 +88,8 @@ pub fn new_run<S: Solver, I: PartnerIndex>(
     left: Option<u64>,
 ) -> Run<S, I>
     requires constant { IsTrue (is_constant bot) }
-    requires atoms { (S.atoms solvers.abstractions ≡ 0) × (S.atoms solvers.known ≡ 0) }
-    requires added { (S.added solvers.abstractions ≡ []) × (S.added solvers.known ≡ []) }
+    requires abstractions { IsNew S.atoms S.added solvers.abstractions }
+    requires known { IsNew S.atoms S.added solvers.known }
     requires first { I.pairs first ≡ [] }
     ensures fresh { IsFresh S.atoms S.added I.pairs result }
     ensures bot { result.ground.abstraction.bot ≡ bot }
@@ -120,28 +117,32 @@ pub fn new_run<S: Solver, I: PartnerIndex>(
 }
 
 // The clauses with the id of each atom in its place.
-fn intern_clauses(alloc: Global, bank: &mut Bank, clauses: &ClauseList) -> Result<IdClauses, Memory>
+fn intern_clauses(
+    alloc: Global,
+    bank: &mut Bank,
+    clauses: &ClauseList,
+) -> Result<IdClauseList, Memory>
     requires formed { AreFormed bank.old }
     requires clauses { AreFormedClauses clauses.now }
     ensures given { IfOk result (λ ids. AreGiven bank.new ids clauses.now) }
     ensures extends { Extends bank.old bank.new }
     ensures formed { AreFormed bank.new }
 {
-    let mut ids = IdClauses::new(alloc);
+    let mut ids = IdClauseList::new(alloc);
     for c in clauses.as_slice() {
         let literals = bank.clause(c)?;
-        ids.push(literals.as_slice())?;
+        ids.push(literals)?;
     }
     Ok(ids)
 }
 
 /// The literals of the clause after the first `count`.
-pub fn literals_after(clauses: &IdClauses, count: usize) -> &[IdLiteral]
+pub fn literals_after(clauses: &IdClauseList, count: usize) -> &[IdLiteral]
     requires { count < length clauses.now }
     ensures { slice_get clauses.now count ≡ Some result.now }
 {
     match clauses.get(count) {
-        Some(literals) => literals,
+        Some(clause) => clause.as_slice(),
         None => unreachable!(),
     }
 }
@@ -196,7 +197,7 @@ fn start_entry<S: Solver, I: PartnerIndex>(
 fn start_entries<S: Solver, I: PartnerIndex>(
     alloc: Global,
     run: &mut Run<S, I>,
-    clauses: &IdClauses,
+    clauses: &IdClauseList,
     before: usize,
 ) -> Result<(), Memory>
     requires safe { IsConsistent S.atoms I.pairs I.fits run.old }
@@ -241,7 +242,7 @@ fn given_in(alloc: Global, bank: &mut Bank, p: &Problem) -> Result<Given, Memory
 }
 
 // The greatest number of literals that one of the clauses has, or `least` where that is more.
-fn longest(clauses: &IdClauses, least: usize) -> usize
+fn longest(clauses: &IdClauseList, least: usize) -> usize
     ensures least { least ≤ result }
     ensures each { All (λ c. length c ≤ result) clauses.now }
 {

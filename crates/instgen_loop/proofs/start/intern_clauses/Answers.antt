@@ -14,8 +14,8 @@ loop-c-preserved c =
     let items = c.as_slice-c-items.result.now in
     let within : c.loop-c.c-index < length items = omega arith in
     let formed = formed_at items c.loop-c.c-index c.c-item.result (subst AreFormedClauses (sym c.as_slice-c-items.ensures) c.requires.clauses) within c.c-item.is in
-    let ids = c.as_slice.result.now in
-    let at = subst (λ (d : List (Signed ℕ)). IsClauseAt g d c.c-item.result) (sym c.as_slice.ensures) c.in_ok-literals.ensures.at in
+    let ids = c.in_ok-literals.literals in
+    let at = c.in_ok-literals.ensures.at in
     record {
       given = subst (λ (cs : List (List (Signed ℕ))). AreGiven g cs (take (c.loop-c.c-index + 1) items)) (sym c.in_ok-push.ensures.ok)
           (one_more_given c.loop-c.bank g c.clause.ensures.extends c.loop-c.ids ids items c.loop-c.c-index c.c-item.result c.loop-c.invariant.given within c.c-item.is at formed);
