@@ -11,12 +11,12 @@ use Rattle.inst_machine.proofs.EntryBound.{entries_are_bounded}
 use Rattle.inst_machine.proofs.Origins.{origins_in_order}
 use Rattle.term_bank.specs.Forest.{Forest, clause_at}
 use Rattle.cert_values.specs.Values.{origin_of}
-use Rattle.instgen_loop.specs.declared.event.Event.{Event}
-use Rattle.instgen_loop.specs.declared.event.Event.TheVariants.{Solved, Inferred}
-use Rattle.instgen_loop.specs.declared.state.Run.{Run}
-use Rattle.instgen_loop.specs.Clauses.{Item}
-use Rattle.instgen_loop.specs.Loops.{items}
-use Rattle.instgen_loop.specs.Running.{event_in, entries_of, state_of, IsRunning, IsRunningFor, most_entries, events_so_far}
+use Rattle.instgen_run.specs.declared.event.Event.{Event}
+use Rattle.instgen_run.specs.declared.event.Event.TheVariants.{Solved, Inferred}
+use Rattle.instgen_run.specs.declared.state.Run.{Run}
+use Rattle.instgen_run.specs.Clauses.{Item}
+use Rattle.instgen_run.specs.Loops.{items}
+use Rattle.instgen_run.specs.Running.{event_in, entries_of, state_of, IsRunning, IsRunningFor, most_entries, events_so_far}
 use Rattle.instgen_loop.specs.Outcomes.{appended_count}
 use Rattle.inst_machine.proofs.BySize.{appended_within_budget, entries_by_size}
 

@@ -49,18 +49,19 @@ use Rattle.cert_values.specs.declared.member.Origin.{Origin}
 use Rattle.cert_values.specs.declared.member.Origin.TheVariants.{Input, Inst, Lemma}
 use Rattle.cert_values.specs.Values.{line_of, origin_of}
 use Rattle.cert_values.specs.Wholes.{IsWholeClause}
-use Rattle.instgen_loop.specs.declared.event.Event.{Event}
+use Rattle.instgen_run.specs.declared.event.Event.{Event}
 use Rattle.instgen_loop.specs.declared.refuted.RefutedRun.{RefutedRun}
-use Rattle.instgen_loop.specs.Clauses.{Item, clauses_in, entries_in}
-use Rattle.instgen_loop.specs.Derived.{AreRefutedLines, IsDerived, IsNoPart, IsOfLine}
+use Rattle.instgen_run.specs.Clauses.{Item, clauses_in, entries_in}
+use Rattle.instgen_loop.specs.Derived.{AreRefutedLines, IsDerived, IsOfLine}
+use Rattle.instgen_run.specs.Origins.{IsNoPart}
 use Rattle.instgen_loop.specs.Endings.{IsRefuted as IsRefutedRun}
-use Rattle.instgen_loop.specs.Grounds.{IsUsed}
+use Rattle.instgen_run.specs.Grounds.{IsUsed}
 use Rattle.instgen_loop.specs.LineNumbers.{clauses_of, HaveLines}
 use Rattle.instgen_loop.specs.Lines.{IsLineIn, AreLinesOf}
 use Rattle.instgen_loop.specs.Refuting.{ground_clause as ids_clause}
-use Rattle.instgen_loop.specs.Running.{event_in}
-use Rattle.instgen_loop.proofs.FirstEntries.{whole_at}
-use Rattle.instgen_loop.proofs.Inferred.{same_clauses}
+use Rattle.instgen_run.specs.Running.{event_in}
+use Rattle.instgen_run.proofs.Grown.{whole_at}
+use Rattle.instgen_run.proofs.Inferred.{same_clauses}
 use Rattle.instgen_loop.proofs.RecordLaws.{entry_of_item}
 use Rattle.instgen_loop.proofs.TreeSteps.{name, ground_trees, ground_whole, numbers_literals}
 

@@ -1,5 +1,5 @@
 -- A run at rest that decided what was held back.
-use Rattle.std.proofs.Common.{◌≡◌, ℕ, List, [], refl, sym, ap, ◌∙◌, subst as transport, length, All, Option, None, Some}
+use Rattle.std.proofs.Common.{◌≡◌, ℕ, List, refl, sym, ap, ◌∙◌, subst as transport, length, All, Option, None, Some}
 use Rattle.std.proofs.lemmas.List.Elements.{All-nil}
 use Rattle.inst_logic.specs.declared.signed.Signed.{Signed}
 use Rattle.inst_logic.specs.Clauses.{TreeClause}
@@ -9,20 +9,20 @@ use Rattle.engine_laws.specs.Pairs.{AreWorked, IsHeldBack}
 use Rattle.term_bank.specs.Forest.{Forest, IsClauseOf}
 use Rattle.term_index.specs.Pairs.{Posting}
 use Rattle.instgen_loop.specs.declared.start.Given.{Given}
-use Rattle.instgen_loop.specs.declared.state.Run.{Run}
-use Rattle.instgen_loop.specs.declared.premises.Premises.{Premises}
-use Rattle.instgen_loop.specs.declared.queue.Partners.{Partners}
+use Rattle.instgen_run.specs.declared.state.Run.{Run}
+use Rattle.instgen_run.specs.declared.premises.Premises.{Premises}
+use Rattle.instgen_run.specs.declared.queue.Partners.{Partners}
 use Rattle.instgen_loop.specs.declared.task.Task.{Task}
-use Rattle.instgen_loop.specs.Clauses.{Item, entries_in}
-use Rattle.instgen_loop.specs.Deciding.{IsSomeConclusion}
+use Rattle.instgen_run.specs.Clauses.{Item, entries_in}
+use Rattle.instgen_run.specs.Deciding.{IsSomeConclusion}
 use Rattle.instgen_loop.specs.Ending.{IsFinished}
-use Rattle.instgen_loop.specs.Loops.{items, held_in, held_of, IsConsistent}
-use Rattle.instgen_loop.specs.Running.{entries_of, events_so_far, IsSolvedFor, Reads}
+use Rattle.instgen_run.specs.Loops.{items, held_in, held_of, IsConsistent}
+use Rattle.instgen_run.specs.Running.{entries_of, events_so_far, IsSolvedFor, Reads}
 use Rattle.instgen_loop.specs.Tasks.{all_clauses}
-use Rattle.instgen_loop.specs.Tended.{AreTended, indexed_of}
+use Rattle.instgen_run.specs.Tended.{AreTended, indexed_of}
 use Rattle.instgen_loop.proofs.FreshRuns.{problem_later}
-use Rattle.instgen_loop.proofs.Grown.{entries_stay}
-use Rattle.instgen_loop.proofs.Runs.{running_read}
+use Rattle.instgen_run.proofs.Grown.{entries_stay}
+use Rattle.instgen_run.proofs.Runs.{running_read}
 
 -- what is held back is a conclusion
 pub held_conclude : {S I C : Type 0} (atoms : S → ℕ) (added : S → List (List (Signed ℕ))) (r : Run S I C) (cs : List TreeClause) (budget : ℕ) → IsSolvedFor atoms added r cs budget

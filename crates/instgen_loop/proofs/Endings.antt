@@ -29,21 +29,20 @@ use Rattle.engine_laws.specs.Pairs.{IsDecided}
 use Rattle.engine_laws.proofs.SelectedEntries.{selection}
 use Rattle.term_bank.specs.Forest.{Forest}
 use Rattle.term_index.specs.Pairs.{Posting}
-use Rattle.cert_values.specs.declared.certificate.Saturation.{Saturation}
 use Rattle.cert_values.specs.Values.{entry_of, saturation_of}
 use Rattle.instgen_loop.specs.declared.ending.Ending.TheVariants.{Saturated}
 use Rattle.instgen_loop.specs.declared.finish.SettledRun.{SettledRun}
 use Rattle.instgen_loop.specs.declared.task.Task.{Task}
 use Rattle.instgen_loop.specs.Endings.{IsEndingAfter}
-use Rattle.instgen_loop.specs.Logs.{Log}
+use Rattle.instgen_run.specs.Logs.{Log}
 use Rattle.instgen_loop.specs.declared.start.Given.{Given}
-use Rattle.instgen_loop.specs.declared.state.Run.{Run}
-use Rattle.instgen_loop.specs.declared.queue.Partners.{Partners}
+use Rattle.instgen_run.specs.declared.state.Run.{Run}
+use Rattle.instgen_run.specs.declared.queue.Partners.{Partners}
 use Rattle.instgen_loop.specs.Ending.{IsAtRest, IsFinished, settled_from, saturation_from}
-use Rattle.instgen_loop.specs.Loops.{items, held_of}
+use Rattle.instgen_run.specs.Loops.{items, held_of}
 use Rattle.instgen_loop.specs.Outcomes.{IsSelectedRun, IsSaturatedRun}
 use Rattle.instgen_loop.specs.Refuting.{member_of}
-use Rattle.instgen_loop.specs.Running.{entries_of, state_of, event_in, IsRunning, saturation_at, events_so_far}
+use Rattle.instgen_run.specs.Running.{entries_of, state_of, event_in, IsRunning, saturation_at, events_so_far}
 use Rattle.instgen_loop.specs.Starting.{IsOfProblem}
 use Rattle.instgen_loop.specs.Tasks.{all_clauses}
 use Rattle.instgen_loop.proofs.PrintedEntries.{entries_printable}

@@ -6,38 +6,37 @@ use Rattle.std.proofs.lemmas.List.Elements.{All-push}
 use Rattle.std.proofs.lemmas.Option.{get_or_from_slice_get}
 use Rattle.inst_logic.specs.declared.symbol.Sym.{Sym}
 use Rattle.inst_logic.specs.declared.signed.Signed.{Signed}
-use Rattle.inst_logic.specs.Tree.{Tree}
 use Rattle.inst_logic.specs.Signed.{IsTautology}
 use Rattle.inst_logic.specs.Clauses.{TreeClause, canonical_form, IsCanonical}
-use Rattle.inst_logic.specs.WellFormed.{IsAtom, IsFormedClause, AreFormedClauses, clause_is_formed, atom_is_formed}
+use Rattle.inst_logic.specs.WellFormed.{IsFormedClause, AreFormedClauses, clause_is_formed}
 use Rattle.std.specs.List.{list_all}
 use Rattle.inst_logic.proofs.SameLemmas.{and_right}
 use Rattle.inst_calculus.specs.Axioms.{equality_axioms}
 use Rattle.inst_calculus.proofs.EqualityAxioms.{with_axioms_formed}
 use Rattle.inst_calculus.specs.Entries.{Entry, entry_clauses, input}
-use Rattle.inst_calculus.proofs.Membership.{◌∈◌, contains_in, in_contains, in_all, all_in, in_map, from_map, passes}
+use Rattle.inst_calculus.proofs.Membership.{◌∈◌, contains_in, in_contains, in_all, all_in, in_map, from_map}
 use Rattle.inst_calculus.proofs.Distinct.{map_append, length_map}
 use Rattle.inst_calculus.proofs.Items.{slice_get_below}
 use Rattle.cert_format.specs.Printable.{IsPrintableClause}
 use Rattle.inst_machine.specs.Machine.{IsFirst}
 use Rattle.inst_machine.proofs.Prolonged.{first_passed_over, first_taken}
-use Rattle.term_bank.specs.Forest.{Forest, AreDistinct, Extends, IsClauseOf, IsClauseAt, clause_at, tree_at}
+use Rattle.term_bank.specs.Forest.{Forest, AreDistinct, Extends, IsClauseOf, IsClauseAt, clause_at}
 use Rattle.term_bank.proofs.Clauses.{clause_extends, clauses_extend}
 use Rattle.clause_form.proofs.Ids.{same_ids}
 use Rattle.cert_values.specs.declared.member.Origin.TheVariants.{Input}
 use Rattle.cert_values.specs.Values.{origin_of}
 use Rattle.cert_values.specs.Wholes.{IsWholeClause}
-use Rattle.instgen_loop.specs.declared.state.Run.{Run}
-use Rattle.instgen_loop.specs.Clauses.{Item, AreEntries, entries_in, clauses_in}
-use Rattle.instgen_loop.specs.Grounds.{IsLinked}
-use Rattle.instgen_loop.specs.Loops.{items, after, KeepsLink, Appends}
-use Rattle.instgen_loop.specs.Running.{entries_of}
-use Rattle.instgen_loop.specs.Marks.{inferred, origins_of}
-use Rattle.instgen_loop.proofs.Logged.{input_told}
+use Rattle.instgen_run.specs.declared.state.Run.{Run}
+use Rattle.instgen_run.specs.Clauses.{Item, AreEntries, entries_in, clauses_in}
+use Rattle.instgen_run.specs.Grounds.{IsLinked}
+use Rattle.instgen_run.specs.Loops.{items, after, KeepsLink, Appends}
+use Rattle.instgen_run.specs.Running.{entries_of}
+use Rattle.instgen_run.specs.Marks.{inferred, origins_of}
+use Rattle.instgen_run.proofs.Logged.{input_told}
 use Rattle.instgen_loop.specs.FirstEntries.{IsStarted}
 use Rattle.instgen_loop.specs.Starting.{AreGiven}
-use Rattle.instgen_loop.proofs.Grown.{whole_kept, entries_stay}
-use Rattle.instgen_loop.proofs.Works.{after_more}
+use Rattle.instgen_run.proofs.Grown.{whole_at, whole_kept, entries_stay}
+use Rattle.instgen_run.proofs.Works.{after_more}
 
 -- Clauses in the bank
 
@@ -45,15 +44,6 @@ pub given_grown : (f g : Forest) → Extends f g → (ids : List (List (Signed �
 given_grown f g grown ids cs h = record {
   whole = in_all (IsWholeClause g) ids (λ c i. whole_kept f g grown c (all_in (IsWholeClause f) ids h.whole c i));
   same = clauses_extend f g grown ids (λ c i. let w = all_in (IsWholeClause f) ids h.whole c i in w.ids) ∙ h.same;
-}
-
--- the ids of a well-formed clause are whole
-pub whole_at : (f : Forest) (c : List (Signed ℕ)) (trees : TreeClause) → IsClauseAt f c trees → IsFormedClause trees → IsWholeClause f c
-whole_at f c trees at formed = record {
-  ids = at.0;
-  atoms = in_all (λ (l : Signed ℕ). IsAtom (tree_at f l.atom)) c (λ l i.
-      passes (λ (x : Signed Tree). atom_is_formed x.atom) (clause_at f c) (ap clause_is_formed at.1 ∙ formed) (record { positive = l.positive; atom = tree_at f l.atom })
-      (in_map (λ (x : Signed ℕ). record { positive = x.positive; atom = tree_at f x.atom }) l c i));
 }
 
 pub one_more_given : (f g : Forest) → Extends f g → (ids : List (List (Signed ℕ))) (c : List (Signed ℕ)) (trees : List TreeClause) (i : ℕ) (d : TreeClause) → AreGiven f ids (take i trees)

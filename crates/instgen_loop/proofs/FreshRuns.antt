@@ -25,16 +25,16 @@ use Rattle.term_bank.specs.Forest.{Forest, AreFormed, Extends, IsClauseOf, claus
 use Rattle.term_index.specs.Pairs.{Posting}
 use Rattle.ground_abs.specs.Abstracts.{AreAtomsIn, AreNotesIn, atoms_in}
 use Rattle.instgen_select.specs.Queues.{numbers, Waiting}
-use Rattle.instgen_loop.specs.declared.event.Event.{Event}
-use Rattle.instgen_loop.specs.declared.state.Run.{Run}
-use Rattle.instgen_loop.specs.declared.premises.Premises.{Premises}
-use Rattle.instgen_loop.specs.Clauses.{Item, AreEntries, AreFirsts, entries_in, clauses_in}
-use Rattle.instgen_loop.specs.Grounds.{IsUsed}
-use Rattle.instgen_loop.specs.Loops.{items, after, held_in, IsConsistent}
-use Rattle.instgen_loop.specs.Logs.{Log}
-use Rattle.instgen_loop.specs.Marks.{inferred, origins_of, events_of, IsLogOf}
-use Rattle.instgen_loop.specs.Running.{IsRunning, IsRunningFor, IsRunningWith, IsEventOf, event_in, entries_of, events_so_far, state_of}
-use Rattle.instgen_loop.specs.Selections.{Placing}
+use Rattle.instgen_run.specs.declared.event.Event.{Event}
+use Rattle.instgen_run.specs.declared.state.Run.{Run}
+use Rattle.instgen_run.specs.declared.premises.Premises.{Premises}
+use Rattle.instgen_run.specs.Clauses.{Item, AreEntries, AreFirsts, entries_in, clauses_in}
+use Rattle.instgen_run.specs.Grounds.{IsUsed}
+use Rattle.instgen_run.specs.Loops.{items, after, held_in, IsConsistent}
+use Rattle.instgen_run.specs.Logs.{Log}
+use Rattle.instgen_run.specs.Marks.{inferred, origins_of, events_of, IsLogOf}
+use Rattle.instgen_run.specs.Running.{IsRunning, IsRunningFor, IsRunningWith, IsEventOf, event_in, entries_of, events_so_far, state_of}
+use Rattle.instgen_run.specs.Selections.{Placing}
 use Rattle.instgen_loop.specs.FirstEntries.{IsStarted}
 use Rattle.instgen_loop.specs.Starting.{IsFresh, IsAllowed, IsOfProblem}
 use Rattle.instgen_loop.specs.declared.start.Given.{Given}

@@ -13,8 +13,8 @@ use Rattle.cert_format.specs.Printable.{IsPrintableClause}
 use Rattle.term_bank.specs.Forest.{Forest, literal_tree, clause_at, tree_at}
 use Rattle.inst_machine.specs.Machine.{State, Event}
 use Rattle.inst_machine.specs.Replay.{Replays}
-use Rattle.instgen_loop.specs.Clauses.{Item, AreEntries, entries_in, clauses_in}
-use Rattle.instgen_loop.proofs.Inferred.{same_clauses}
+use Rattle.instgen_run.specs.Clauses.{Item, AreEntries, entries_in, clauses_in}
+use Rattle.instgen_run.proofs.Inferred.{same_clauses}
 use Rattle.engine_laws.proofs.Printed.{IsReadable, readable_by_symbols, all_formed, all_symbols_readable}
 
 module _ (f : Forest) (es : List Item) (bot : Sym) (clauses : List TreeClause) (journal : List Event) (t : State) (entries : AreEntries f es) (replays : Replays bot (with_axioms clauses) journal t)

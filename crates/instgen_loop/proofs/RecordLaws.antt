@@ -39,10 +39,10 @@ use Rattle.global_subs.specs.Unrolls.{how_at, made_at, entries_at, terms_of, Has
 use Rattle.cert_values.specs.declared.member.Origin.{Origin}
 use Rattle.cert_values.specs.declared.member.Origin.TheVariants.{Inst, Lemma}
 use Rattle.cert_values.specs.Values.{origin_of}
-use Rattle.instgen_loop.specs.Clauses.{Item, AreEntries, entries_in}
+use Rattle.instgen_run.specs.Clauses.{Item, AreEntries, entries_in}
 use Rattle.instgen_loop.specs.Records.{IsConcluded, AreConcluded, IsRecord, AreRecordsOf}
-use Rattle.instgen_loop.proofs.Decisions.{take_next}
-use Rattle.instgen_loop.proofs.Grown.{entries_stay}
+use Rattle.instgen_run.proofs.Decisions.{take_next}
+use Rattle.instgen_run.proofs.Grown.{entries_stay}
 use Rattle.instgen_loop.proofs.LineLaws.{terms_later}
 
 abbrev pub entry_of_item : Forest → Item → Entry

@@ -43,7 +43,7 @@ use Rattle.cert_values.specs.declared.certificate.GroundStep.{GroundStep}
 use Rattle.cert_values.specs.declared.certificate.Refutation.{Refutation}
 use Rattle.cert_values.specs.Values.{entry_of, line_of, step_of, refutation_of}
 use Rattle.cert_values.specs.Wholes.{IsWholeClause, IsWholeTerm, IsWholeLine, IsWholeRefutation}
-use Rattle.instgen_loop.specs.declared.event.Event.{Event}
+use Rattle.instgen_run.specs.declared.event.Event.{Event}
 use Rattle.instgen_loop.specs.declared.refuted.RefutedRun.{RefutedRun}
 use Rattle.instgen_loop.specs.Endings.{IsRefuted}
 use Rattle.instgen_loop.specs.Derived.{IsDerived, IsOfLine}
@@ -51,8 +51,8 @@ use Rattle.instgen_loop.specs.LineNumbers.{clauses_of, AreLineNumbers}
 use Rattle.instgen_loop.specs.Lines.{IsLineIn, AreLinesOf}
 use Rattle.instgen_loop.specs.Outcomes.{IsRefutedRun}
 use Rattle.instgen_loop.specs.Refuting.{ground_step, member_of, base_from}
-use Rattle.instgen_loop.specs.Running.{event_in}
-use Rattle.instgen_loop.proofs.FirstEntries.{whole_at}
+use Rattle.instgen_run.specs.Running.{event_in}
+use Rattle.instgen_run.proofs.Grown.{whole_at}
 use Rattle.instgen_loop.proofs.PrintedEntries as entries
 use Rattle.instgen_loop.proofs.Refuting.{whole_items}
 use Rattle.instgen_loop.proofs.DerivedLaws.{told, line_trees, lines_grounded, abstractions_refuted}

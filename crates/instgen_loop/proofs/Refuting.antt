@@ -40,27 +40,27 @@ use Rattle.cert_values.specs.declared.member.Origin.TheVariants.{Input, Inst, Le
 use Rattle.cert_values.specs.Values.{line_of, origin_of}
 use Rattle.cert_values.specs.Wholes.{IsWholeClause}
 use Rattle.instgen_loop.specs.declared.ending.Ending.TheVariants.{Refuted}
-use Rattle.instgen_loop.specs.declared.event.Event.{Event}
-use Rattle.instgen_loop.specs.Logs.{Log}
+use Rattle.instgen_run.specs.declared.event.Event.{Event}
+use Rattle.instgen_run.specs.Logs.{Log}
 use Rattle.instgen_loop.specs.declared.refuted.RefutedRun.{RefutedRun}
 use Rattle.instgen_loop.specs.declared.start.Given.{Given}
-use Rattle.instgen_loop.specs.declared.state.Run.{Run}
+use Rattle.instgen_run.specs.declared.state.Run.{Run}
 use Rattle.instgen_loop.specs.declared.task.Task.{Task}
-use Rattle.instgen_loop.specs.Clauses.{Item, AreEntries, entries_in, clauses_in}
+use Rattle.instgen_run.specs.Clauses.{Item, AreEntries, entries_in, clauses_in}
 use Rattle.instgen_loop.specs.Endings.{IsRefuted, IsEndingAfter}
-use Rattle.instgen_loop.specs.Grounds.{IsUsed}
+use Rattle.instgen_run.specs.Grounds.{IsUsed}
 use Rattle.instgen_loop.specs.Lines.{given_of, given_trees, HasClauses, IsLineIn, AreLinesOf}
-use Rattle.instgen_loop.specs.Loops.{IsConsistent}
+use Rattle.instgen_run.specs.Loops.{IsConsistent}
 use Rattle.instgen_loop.specs.Records.{IsConcluded, AreConcluded, AreRecordsOf}
 use Rattle.instgen_loop.specs.Refuting.{member_of, refuted_from}
-use Rattle.instgen_loop.specs.Running.{event_in, IsEventOf, state_of, IsRunning, IsRunningFor, events_so_far}
+use Rattle.instgen_run.specs.Running.{event_in, IsEventOf, state_of, IsRunning, IsRunningFor, events_so_far}
 use Rattle.instgen_loop.specs.Starting.{IsOfProblem}
 use Rattle.instgen_loop.specs.Tasks.{all_clauses}
 use Rattle.instgen_loop.proofs.FirstEntries.{given_grown}
-use Rattle.instgen_loop.proofs.Grown.{clauses_kept, entries_kept, entries_stay}
+use Rattle.instgen_run.proofs.Grown.{clauses_kept, entries_kept, entries_stay}
 use Rattle.instgen_loop.proofs.LineLaws.{lines_later, line_in_later}
 use Rattle.instgen_loop.proofs.RecordLaws.{are_entries, are_records, entry_ids, entry_of_item, number_of, same_entries}
-use Rattle.instgen_loop.proofs.Runs.{events_kept, events_later}
+use Rattle.instgen_run.proofs.Runs.{events_kept, events_later}
 
 pub whole_items : (f : Forest) (es : List Item) → AreEntries f es → All (λ (m : Member). IsWholeClause f m.clause) (map member_of es)
 whole_items f es h = in_all (λ (m : Member). IsWholeClause f m.clause) (map member_of es) (λ m i.

@@ -16,12 +16,12 @@ use Rattle.term_bank.specs.Forest.{clause_at}
 use Rattle.term_index.specs.Pairs.{Posting}
 use Rattle.instgen_select.specs.Queues.{Waiting, numbers}
 use Rattle.cert_values.specs.Values.{origin_of}
-use Rattle.instgen_loop.specs.declared.state.Run.{Run}
-use Rattle.instgen_loop.specs.declared.queue.Partners.{Partners}
-use Rattle.instgen_loop.specs.Clauses.{Item}
-use Rattle.instgen_loop.specs.Loops.{items, held_of}
-use Rattle.instgen_loop.specs.Running.{event_in, entries_of, state_of, IsRunning, saturation_at, events_so_far}
-use Rattle.instgen_loop.specs.Tended.{AreTended, indexed_of}
+use Rattle.instgen_run.specs.declared.state.Run.{Run}
+use Rattle.instgen_run.specs.declared.queue.Partners.{Partners}
+use Rattle.instgen_run.specs.Clauses.{Item}
+use Rattle.instgen_run.specs.Loops.{items, held_of}
+use Rattle.instgen_run.specs.Running.{event_in, entries_of, state_of, IsRunning, saturation_at, events_so_far}
+use Rattle.instgen_run.specs.Tended.{AreTended, indexed_of}
 
 -- where nothing waits each entry is indexed
 pub all_indexed : {S I C : Type 0} (pairs : I → List Posting) (r : Run S I C) (p : Partners I C) → AreTended pairs r p → r.queue.items ≡ [] → (i : ℕ) → i < length (entries_of r) → Contains (indexed_of pairs p) (suc i)

@@ -10,12 +10,12 @@ use Rattle.term_index.specs.Pairs.{Posting}
 use Rattle.instgen_select.specs.Queues.{numbers}
 use Rattle.instgen_loop.specs.declared.outcome.Outcome.{Outcome}
 use Rattle.instgen_loop.specs.declared.outcome.Outcome.TheVariants.{Refuted, Saturated, OutOfBudget}
-use Rattle.instgen_loop.specs.declared.queue.Partners.{Partners}
-use Rattle.instgen_loop.specs.declared.state.Run.{Run}
-use Rattle.instgen_loop.specs.Loops.{items, after}
+use Rattle.instgen_run.specs.declared.queue.Partners.{Partners}
+use Rattle.instgen_run.specs.declared.state.Run.{Run}
+use Rattle.instgen_run.specs.Loops.{items, after}
 use Rattle.instgen_loop.specs.Outcomes.{IsOutcome, IsDecided}
-use Rattle.instgen_loop.specs.Tended.{AreTended, AreOnce, indexed_of}
-use Rattle.instgen_loop.proofs.Tending.{above, there, after_once}
+use Rattle.instgen_run.specs.Tended.{AreTended, AreOnce, indexed_of}
+use Rattle.instgen_run.proofs.Tending.{above, there, after_once}
 
 -- All entries wait, and none is indexed
 

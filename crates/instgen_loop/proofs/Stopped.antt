@@ -21,24 +21,23 @@ use Rattle.engine_laws.specs.Pairs.{Held, IsDecided, IsHeldBack}
 use Rattle.engine_laws.proofs.SelectedEntries.{open_is_among, still_is_open}
 use Rattle.term_bank.specs.Forest.{Forest}
 use Rattle.term_index.specs.Pairs.{Posting}
-use Rattle.cert_values.specs.declared.certificate.Saturation.{Saturation}
 use Rattle.instgen_loop.specs.declared.ending.Ending.TheVariants.{OutOfBudget}
 use Rattle.instgen_loop.specs.declared.finish.SettledRun.{SettledRun}
 use Rattle.instgen_loop.specs.declared.task.Task.{Task}
 use Rattle.instgen_loop.specs.Endings.{IsEndingAfter}
-use Rattle.instgen_loop.specs.Logs.{Log}
+use Rattle.instgen_run.specs.Logs.{Log}
 use Rattle.instgen_loop.specs.declared.start.Given.{Given}
-use Rattle.instgen_loop.specs.declared.state.Run.{Run}
-use Rattle.instgen_loop.specs.declared.premises.Premises.{Premises}
-use Rattle.instgen_loop.specs.declared.queue.Partners.{Partners}
-use Rattle.instgen_loop.specs.Deciding.{IsOpenHeld, IsLeastOpen}
+use Rattle.instgen_run.specs.declared.state.Run.{Run}
+use Rattle.instgen_run.specs.declared.premises.Premises.{Premises}
+use Rattle.instgen_run.specs.declared.queue.Partners.{Partners}
+use Rattle.instgen_run.specs.Deciding.{IsOpenHeld, IsLeastOpen}
 use Rattle.instgen_loop.specs.Ending.{IsAtRest, IsFinished, settled_from, saturation_from}
-use Rattle.instgen_loop.specs.Loops.{held_in, held_of}
+use Rattle.instgen_run.specs.Loops.{held_in, held_of}
 use Rattle.instgen_loop.specs.Outcomes.{IsStoppedRun}
-use Rattle.instgen_loop.specs.Running.{entries_of, state_of, event_in, IsRunning, events_so_far}
+use Rattle.instgen_run.specs.Running.{entries_of, state_of, event_in, IsRunning, events_so_far}
 use Rattle.instgen_loop.specs.Starting.{IsOfProblem}
 use Rattle.instgen_loop.specs.Tasks.{all_clauses}
-use Rattle.instgen_loop.specs.Tended.{indexed_of}
+use Rattle.instgen_run.specs.Tended.{indexed_of}
 use Rattle.instgen_loop.proofs.Endings.{same, long, selected_run, own_constant}
 use Rattle.instgen_loop.proofs.Saturated.{all_indexed}
 

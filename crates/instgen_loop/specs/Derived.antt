@@ -12,18 +12,10 @@ use Rattle.prop_logic.specs.Solving.{Refutes}
 use Rattle.term_bank.specs.Forest.{Forest, clause_at, tree_at}
 use Rattle.ground_abs.specs.Abstracts.{atoms_in, AreAtomsIn}
 use Rattle.cert_values.specs.declared.certificate.GroundLine.{GroundLine}
-use Rattle.cert_values.specs.declared.member.Origin.{Origin}
-use Rattle.cert_values.specs.declared.member.Origin.TheVariants.{Input, Inst, Lemma}
 use Rattle.cert_values.specs.Wholes.{IsWholeClause}
-use Rattle.instgen_loop.specs.declared.ground.Ground.{Ground}
+use Rattle.instgen_run.specs.declared.ground.Ground.{Ground}
 use Rattle.instgen_loop.specs.declared.refuted.RefutedRun.{RefutedRun}
 use Rattle.instgen_loop.specs.LineNumbers.{HaveLines, clauses_of}
-
--- it is an input or a whole conclusion
-abbrev pub IsNoPart : Origin → Type 0
-IsNoPart (Input k) = Unit {0}
-IsNoPart (Inst from place partner other) = Unit {0}
-IsNoPart (Lemma from place partner other keep premises) = ⊥
 
 -- the tree is the atom of a literal of a line
 pub record IsOfLine (f : Forest) (lines : List GroundLine) (t : Tree) : Type 0 where

@@ -5,16 +5,16 @@ use Rattle.term_bank.specs.Forest.{Forest}
 use Rattle.term_index.specs.Pairs.{Posting}
 use Rattle.cert_values.specs.declared.certificate.Saturation.{Saturation}
 use Rattle.instgen_loop.specs.declared.start.Given.{Given}
-use Rattle.instgen_loop.specs.declared.state.Run.{Run}
+use Rattle.instgen_run.specs.declared.state.Run.{Run}
 use Rattle.instgen_loop.specs.declared.finish.SettledRun.{SettledRun}
-use Rattle.instgen_loop.specs.declared.queue.Partners.{Partners}
+use Rattle.instgen_run.specs.declared.queue.Partners.{Partners}
 use Rattle.instgen_loop.specs.declared.task.Task.{Task}
-use Rattle.instgen_loop.specs.Loops.{items, IsConsistent}
+use Rattle.instgen_run.specs.Loops.{items, IsConsistent}
 use Rattle.instgen_loop.specs.Refuting.{remains_of, base_from}
-use Rattle.instgen_loop.specs.Running.{IsSolvedFor}
+use Rattle.instgen_run.specs.Running.{IsSolvedFor}
 use Rattle.instgen_loop.specs.Starting.{IsOfProblem}
 use Rattle.instgen_loop.specs.Tasks.{all_clauses}
-use Rattle.instgen_loop.specs.Tended.{AreTended}
+use Rattle.instgen_run.specs.Tended.{AreTended}
 
 -- nothing waits, each entry has a place, and what is indexed is worked
 pub record IsAtRest {S I C : Type 0} (atoms : S → ℕ) (pairs : I → List Posting) (fits : Forest → I → Type 0) (r : Run S I C) (p : Partners I C) : Type 0 where

@@ -10,18 +10,18 @@ use Rattle.inst_machine.specs.Replay.{Replays}
 use Rattle.cert_format.specs.Printable.{IsPrintableClause}
 use Rattle.prop_logic.specs.Solving.{Refutes}
 use Rattle.ground_abs.specs.Abstracts.{atoms_in, AreAtomsIn}
-use Rattle.instgen_loop.specs.declared.event.Event.{Event}
+use Rattle.instgen_run.specs.declared.event.Event.{Event}
 use Rattle.instgen_loop.specs.declared.ending.Ending.{Ending}
 use Rattle.instgen_loop.specs.declared.ending.Ending.TheVariants.{Refuted, Saturated, OutOfBudget}
 use Rattle.instgen_loop.specs.declared.refuted.RefutedRun.{RefutedRun}
 use Rattle.instgen_loop.specs.declared.task.Task.{Task}
-use Rattle.instgen_loop.specs.Clauses.{AreEntries, Item, entries_in, clauses_in}
+use Rattle.instgen_run.specs.Clauses.{AreEntries, Item, entries_in, clauses_in}
 use Rattle.instgen_loop.specs.Ending.{saturation_from}
-use Rattle.instgen_loop.specs.Grounds.{IsUsed}
-use Rattle.instgen_loop.specs.Logs.{Log}
-use Rattle.instgen_loop.specs.Marks.{events_of, IsLogOf}
+use Rattle.instgen_run.specs.Grounds.{IsUsed}
+use Rattle.instgen_run.specs.Logs.{Log}
+use Rattle.instgen_run.specs.Marks.{events_of, IsLogOf}
 use Rattle.instgen_loop.specs.Outcomes.{IsSaturatedRun, IsStoppedRun}
-use Rattle.instgen_loop.specs.Running.{event_in, IsEventOf}
+use Rattle.instgen_run.specs.Running.{event_in, IsEventOf}
 use Rattle.instgen_loop.specs.Starting.{AreGiven}
 
 -- The journal replays to the entries, of which the numbered clauses are the abstractions, and the derivation refutes these. The

@@ -5,13 +5,13 @@ use Rattle.inst_logic.specs.Clauses.{TreeClause}
 use Rattle.inst_machine.specs.Machine.{IsFirst}
 use Rattle.term_bank.specs.Forest.{Extends}
 use Rattle.instgen_select.specs.Queues.{numbers}
-use Rattle.instgen_loop.specs.declared.state.Run.{Run}
-use Rattle.instgen_loop.specs.Clauses.{clauses_in}
-use Rattle.instgen_loop.specs.Grounds.{IsLinked}
-use Rattle.instgen_loop.specs.Logs.{no_solves}
-use Rattle.instgen_loop.specs.Loops.{items, after}
-use Rattle.instgen_loop.specs.Marks.{inferred, origins_of}
-use Rattle.instgen_loop.specs.Running.{entries_of}
+use Rattle.instgen_run.specs.declared.state.Run.{Run}
+use Rattle.instgen_run.specs.Clauses.{clauses_in}
+use Rattle.instgen_run.specs.Grounds.{IsLinked}
+use Rattle.instgen_run.specs.Logs.{no_solves}
+use Rattle.instgen_run.specs.Loops.{items, after}
+use Rattle.instgen_run.specs.Marks.{inferred, origins_of}
+use Rattle.instgen_run.specs.Running.{entries_of}
 
 -- the bank may have grown, and the constant, what is left and the bound of lengths are the same
 pub record Continues {S I C : Type 0} (old new : Run S I C) : Type 0 where

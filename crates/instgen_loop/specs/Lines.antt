@@ -13,7 +13,7 @@ use Rattle.cert_values.specs.declared.certificate.GroundLine.{GroundLine}
 use Rattle.cert_values.specs.Values.{line_of}
 use Rattle.instgen_loop.specs.declared.refuted.RefutedRun.{RefutedRun}
 use Rattle.instgen_loop.specs.declared.start.Given.{Given}
-use Rattle.instgen_loop.specs.Clauses.{entries_in}
+use Rattle.instgen_run.specs.Clauses.{entries_in}
 
 -- the clauses and then their axioms
 abbrev pub given_of : Given → List (List (Signed ℕ))

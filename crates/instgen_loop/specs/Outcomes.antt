@@ -19,9 +19,9 @@ use Rattle.cert_values.specs.declared.certificate.Refutation.{Refutation}
 use Rattle.cert_values.specs.declared.certificate.Saturation.{Saturation}
 use Rattle.cert_values.specs.Values.{base_of, refutation_of, saturation_of}
 use Rattle.cert_values.specs.Wholes.{IsWholeRefutation, IsWholeSaturation}
-use Rattle.instgen_loop.specs.declared.event.Event.{Event}
-use Rattle.instgen_loop.specs.declared.event.Event.TheVariants.{Solved, Inferred}
-use Rattle.instgen_loop.specs.Running.{event_in}
+use Rattle.instgen_run.specs.declared.event.Event.{Event}
+use Rattle.instgen_run.specs.declared.event.Event.TheVariants.{Solved, Inferred}
+use Rattle.instgen_run.specs.Running.{event_in}
 use Rattle.instgen_loop.specs.declared.outcome.Outcome.{Outcome}
 use Rattle.instgen_loop.specs.declared.outcome.Outcome.TheVariants.{Refuted, Saturated, OutOfBudget}
 

@@ -13,7 +13,7 @@ use Rattle.global_subs.specs.Unrolls.{how_at, terms_of}
 use Rattle.cert_values.specs.declared.member.Origin.{Origin}
 use Rattle.cert_values.specs.declared.member.Origin.TheVariants.{Input, Inst, Lemma}
 use Rattle.cert_values.specs.Values.{origin_of}
-use Rattle.instgen_loop.specs.Clauses.{Item, entries_in}
+use Rattle.instgen_run.specs.Clauses.{Item, entries_in}
 
 -- an origin that names two entries names a conclusion of them, or a part of one, which is the clause
 abbrev pub IsConcluded : List Entry → Origin → TreeClause → Type 0

@@ -13,10 +13,10 @@ use Rattle.cert_values.specs.declared.certificate.GroundHint.{GroundHint}
 use Rattle.cert_values.specs.declared.certificate.GroundHint.TheVariants.{Ground, Step as Earlier}
 use Rattle.cert_values.specs.declared.certificate.GroundStep.{GroundStep}
 use Rattle.instgen_loop.specs.declared.start.Given.{Given}
-use Rattle.instgen_loop.specs.declared.state.Run.{Run}
+use Rattle.instgen_run.specs.declared.state.Run.{Run}
 use Rattle.instgen_loop.specs.declared.hand_over.Remains.{Remains}
 use Rattle.instgen_loop.specs.declared.refuted.RefutedRun.{RefutedRun}
-use Rattle.instgen_loop.specs.Clauses.{Item}
+use Rattle.instgen_run.specs.Clauses.{Item}
 
 -- the literals with the ids of their atoms, each at its first place only
 abbrev pub ground_clause : List ℕ → List (Signed ℕ) → List (Signed ℕ)

@@ -3,7 +3,7 @@ use Rattle.std.specs.Prelude.{◌≡◌, ℕ, List, map}
 use Rattle.inst_logic.specs.Clauses.{TreeClause}
 use Rattle.term_bank.specs.Forest.{AreDistinct}
 use Rattle.cert_values.specs.declared.certificate.Refutation.{Refutation}
-use Rattle.instgen_loop.specs.declared.event.Event.{Event}
+use Rattle.instgen_run.specs.declared.event.Event.{Event}
 use Rattle.instgen_loop.specs.declared.hand_over.Remains.{Remains}
 use Rattle.instgen_loop.specs.declared.refuted.RefutedRun.{RefutedRun}
 use Rattle.instgen_loop.specs.declared.refuted.Shown.{Shown}

@@ -11,9 +11,9 @@ use Rattle.term_bank.specs.Forest.{Forest, AreFormed, clause_at}
 use Rattle.term_index.specs.Pairs.{Posting}
 use Rattle.cert_values.specs.Wholes.{IsWholeClause}
 use Rattle.instgen_loop.specs.declared.start.Given.{Given}
-use Rattle.instgen_loop.specs.declared.state.Run.{Run}
-use Rattle.instgen_loop.specs.Logs.{no_solves}
-use Rattle.instgen_loop.specs.Loops.{items}
+use Rattle.instgen_run.specs.declared.state.Run.{Run}
+use Rattle.instgen_run.specs.Logs.{no_solves}
+use Rattle.instgen_run.specs.Loops.{items}
 
 -- the solver has no atoms and no clauses
 abbrev pub IsNew : {S : Type 0} → (S → ℕ) → (S → List (List (Signed ℕ))) → S → Type 0

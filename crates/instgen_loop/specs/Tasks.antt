@@ -3,7 +3,7 @@ use Rattle.std.specs.Prelude.{◌≤◌, suc, List, IsFalse}
 use Rattle.inst_logic.specs.Clauses.{TreeClause}
 use Rattle.inst_logic.specs.Measure.{is_function_free}
 use Rattle.inst_calculus.specs.Axioms.{with_axioms}
-use Rattle.instgen_loop.specs.declared.event.Event.{Event}
+use Rattle.instgen_run.specs.declared.event.Event.{Event}
 use Rattle.instgen_loop.specs.declared.outcome.Outcome.{Outcome}
 use Rattle.instgen_loop.specs.declared.task.Task.{Task}
 use Rattle.instgen_loop.specs.Outcomes.{IsOutcome, appended_count}

@@ -4,11 +4,11 @@ ghost use Rattle.inst_logic.specs.declared.symbol.Sym.{Sym};
 ghost use Rattle.inst_logic.specs.Tree.{Tree};
 ghost use Rattle.inst_logic.specs.Clauses.{TreeClause};
 ghost use Rattle.inst_logic.specs.WellFormed.{AreFormedClauses};
-ghost use Rattle.instgen_loop.specs.Loops.{items};
-ghost use Rattle.instgen_loop.specs.Running.{IsRunning, IsRunningFor, events_so_far, most_entries};
+ghost use Rattle.instgen_run.specs.Loops.{items};
+ghost use Rattle.instgen_run.specs.Running.{IsRunning, IsRunningFor, events_so_far, most_entries};
 ghost use Rattle.instgen_loop.specs.Outcomes.{appended_count};
 
-use crate::state::Run;
+use instgen_run::Run;
 use prop_logic::Solver;
 use term_index::PartnerIndex;
 

@@ -4,19 +4,19 @@ ghost use Rattle.std.specs.Prelude.{◌≡◌, [], List, Bool, map, All, IfOk, O
 ghost use Rattle.prop_logic.specs.Solving.{MakesTrue, Refutes};
 ghost use Rattle.cert_values.specs.Wholes.{IsWholeClause};
 ghost use Rattle.term_bank.specs.Forest.{AreDistinct, AreFormed, Extends, clause_at};
-ghost use Rattle.instgen_loop.specs.Clauses.{Item};
-ghost use Rattle.instgen_loop.specs.Derived.{AreRefutedLines, IsDerived, IsEmptyGround, IsNoPart};
-ghost use Rattle.instgen_loop.specs.Grounds.{IsLinked};
+ghost use Rattle.instgen_run.specs.Clauses.{Item};
+ghost use Rattle.instgen_loop.specs.Derived.{AreRefutedLines, IsDerived, IsEmptyGround};
+ghost use Rattle.instgen_run.specs.Origins.{IsNoPart};
+ghost use Rattle.instgen_run.specs.Grounds.{IsLinked};
 ghost use Rattle.instgen_loop.specs.LineNumbers.{clauses_of};
 ghost use Rattle.instgen_loop.specs.Starting.{IsNew};
 
-use crate::ground::{Ground, add_entry};
-use crate::origin::{Origins, origin_of};
 use crate::refuted::RefutedRun;
 use cert_values::GroundLineList;
 use compact_lists::FlatClauses;
 use ground_abs::Abstraction;
 use inst_logic::Memory;
+use instgen_run::{Ground, Origins, add_entry, origin_of};
 use prop_logic::{Answer, Derivation, Solver, Valuation};
 use std::alloc::Global;
 use std::mem::swap;

@@ -1,20 +1,18 @@
 // How a run ends. The certificate and the journal are made only once the run is gone, so that its memory serves for them.
 ghost use Rattle.std.specs.Prelude.{◌≡◌, [], IfOk};
 ghost use Rattle.instgen_loop.specs.Endings.{IsEnding, IsEndingAfter, entries_left};
-ghost use Rattle.instgen_loop.specs.Marks.{IsLogOf, events_of};
+ghost use Rattle.instgen_run.specs.Marks.{IsLogOf, events_of};
 ghost use Rattle.instgen_loop.specs.Outcomes.{journal_of};
 ghost use Rattle.instgen_loop.specs.Starting.{IsNew};
 ghost use Rattle.instgen_loop.specs.Tasks.{IsOutcomeFor};
 
-use crate::event::Journal;
-use crate::event_log::EventLog;
 use crate::finish::{SettledRun, saturation_of};
-use crate::origin::Origins;
 use crate::outcome::Outcome;
 use crate::refuted::{RefutedRun, refutation_of};
 use crate::task::Task;
 use cert_values::{Refutation, Saturation};
 use inst_logic::Memory;
+use instgen_run::{EventLog, Journal, Origins};
 use prop_logic::Solver;
 use std::alloc::Global;
 

@@ -3,11 +3,10 @@
 ghost use Rattle.std.specs.Prelude.{◌≡◌, map, IfOk};
 ghost use Rattle.instgen_loop.specs.Refuting.{member_of, remains_of, base_from};
 
-use crate::origin::Origins;
 use crate::start::Given;
-use crate::state::Run;
 use cert_values::{Base, Member, MemberList};
 use inst_logic::{Memory, NameList, Problem};
+use instgen_run::{Origins, Run};
 use prop_logic::Solver;
 use std::alloc::Global;
 use std::mem::replace;

@@ -4,7 +4,7 @@ ghost use Rattle.inst_logic.specs.Truth.{IsTrueClause};
 ghost use Rattle.inst_machine.specs.Machine.{change_all};
 ghost use Rattle.prop_logic.specs.Valuation.{IsHeld};
 ghost use Rattle.term_bank.specs.Forest.{tree_at};
-ghost use Rattle.instgen_loop.specs.Solves.{Solves};
+ghost use Rattle.instgen_run.specs.Solves.{Solves};
 ghost use Rattle.inst_logic.specs.declared.symbol.Sym.{Sym};
 ghost use Rattle.inst_logic.specs.Tree.{Tree};
 ghost use Rattle.inst_logic.specs.Clauses.{TreeClause};
@@ -13,12 +13,11 @@ ghost use Rattle.inst_calculus.specs.Axioms.{equality_axioms, with_axioms};
 ghost use Rattle.cert_format.specs.Certificate.{Base};
 ghost use Rattle.cert_format.specs.Validity.{IsValidSaturation};
 ghost use Rattle.engine_laws.specs.Pairs.{IsDecided};
-ghost use Rattle.instgen_loop.specs.Loops.{items, held_of};
-ghost use Rattle.instgen_loop.specs.Running.{IsRunning, entries_of, saturation_at};
-ghost use Rattle.instgen_loop.specs.Tended.{AreTended};
+ghost use Rattle.instgen_run.specs.Loops.{items, held_of};
+ghost use Rattle.instgen_run.specs.Running.{IsRunning, entries_of, saturation_at};
+ghost use Rattle.instgen_run.specs.Tended.{AreTended};
 
-use crate::queue::Partners;
-use crate::state::Run;
+use instgen_run::{Partners, Run};
 use prop_logic::Solver;
 use term_index::PartnerIndex;
 

@@ -5,7 +5,6 @@ ghost use Rattle.prop_logic.specs.Literal.{AllAtomsBelow, AtomsBelow};
 ghost use Rattle.instgen_loop.specs.LineNumbers.{AreIndexed, AreLineNumbers, HaveLines};
 ghost use Rattle.instgen_loop.specs.Refuting.{ground_clause};
 
-use crate::ground::clause_after;
 use crate::start::copied_clause;
 use crate::steps::ground_clause;
 use cert_values::GroundLineList;
@@ -13,6 +12,7 @@ use compact_lists::{FlatClauses, Literals};
 use ground_abs::Abstraction;
 use indexmap::IndexMap;
 use inst_logic::{Memory, NumberList};
+use instgen_run::clause_after;
 use std::alloc::Global;
 use term_bank::IdClause;
 

@@ -6,7 +6,7 @@ ghost use Rattle.cert_format.specs.Printable.{IsPrintableClause, IsPrintableProb
 ghost use Rattle.inst_logic.specs.WellFormed.{is_constant};
 ghost use Rattle.inst_calculus.specs.Abstraction.{IsBot};
 ghost use Rattle.instgen_loop.specs.Endings.{IsEndingAfter, entries_left};
-ghost use Rattle.instgen_loop.specs.Marks.{events_of};
+ghost use Rattle.instgen_run.specs.Marks.{events_of};
 ghost use Rattle.instgen_loop.specs.Starting.{IsNew, IsFresh, IsAllowed};
 ghost use Rattle.instgen_loop.specs.Tasks.{IsOutcomeFor, IsWithinBudget};
 ghost use Rattle.instgen_loop.specs.Outcomes.{IsOutcome, IsDecided, appended_count, journal_of};
@@ -14,17 +14,14 @@ ghost use Rattle.instgen_loop.specs.Outcomes.{IsOutcome, IsDecided, appended_cou
 use crate::choices::Choices;
 use crate::cycle::{Stop, cycle};
 use crate::ending::{Ending, outcome_of};
-use crate::event::Journal;
-use crate::event_log::EventLog;
 use crate::finish::finish;
-use crate::queue::Partners;
 use crate::refuted::refuted_ending;
 use crate::start::{Solvers, new_run, start};
-use crate::state::Run;
 use crate::task::Task;
 use cert_values::{Refutation, Saturation};
 use ground_abs::bot_of;
 use inst_logic::{Memory, Problem, function_free};
+use instgen_run::{EventLog, Journal, Partners, Run};
 use prop_logic::Solver;
 use std::alloc::Global;
 use std::mem::replace;

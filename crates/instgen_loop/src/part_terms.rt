@@ -11,9 +11,9 @@ ghost use Rattle.cert_values.specs.Wholes.{IsWholeClause};
 ghost use Rattle.term_bank.specs.Forest.{AreFormed, AreIds, Extends, IsClauseOf, IsTermIn, clause_at, tree_at};
 ghost use Rattle.instgen_loop.specs.PartTerms.{AreBound, AreBoundTerms, IsBoundTerm, IsRenumbered};
 
-use crate::infer::kept_literals;
 use clause_form::{canonical, greatest_variable};
 use inst_logic::{Memory, PlaceList};
+use instgen_run::kept_literals;
 use std::alloc::Global;
 use term_bank::{Bank, IdClause, IdLiteral, TermId, TermIdList};
 use unify_core::{Bindings, Side};

@@ -10,20 +10,13 @@ ghost use Rattle.term_bank.specs.Forest.{AreFormed, Extends, clause_at};
 ghost use Rattle.cert_values.specs.Wholes.{IsWholeClause};
 ghost use Rattle.cert_format.specs.Printable.{IsPrintableClause};
 ghost use Rattle.instgen_select.specs.Queues.{numbers};
-ghost use Rattle.instgen_loop.specs.Loops.{IsConsistent, items, after};
-ghost use Rattle.instgen_loop.specs.Running.{IsRunningWith};
+ghost use Rattle.instgen_run.specs.Loops.{IsConsistent, items, after};
+ghost use Rattle.instgen_run.specs.Running.{IsRunningWith};
 ghost use Rattle.instgen_loop.specs.Starting.{IsNew, IsFresh, IsAllowed, AreGiven, IsOfProblem};
 ghost use Rattle.instgen_loop.specs.Tasks.{all_clauses};
 ghost use Rattle.instgen_loop.specs.FirstEntries.{Continues, IsStarted};
 
-use crate::entries::Entries;
-use crate::event_log::EventLog;
 use crate::first_values::predicate_values;
-use crate::ground::Ground;
-use crate::origin::{Origins, PackedOrigin};
-use crate::scratch::Scratch;
-use crate::selection::Selection;
-use crate::state::{Run, append};
 use crate::task::Task;
 use clause_form::long_tautology;
 use compact_lists::FlatClauses;
@@ -31,6 +24,9 @@ use equality_axioms::axioms_of;
 use global_subs::Known;
 use ground_abs::Abstraction;
 use inst_logic::{ClauseList, Memory, Problem, Sym};
+use instgen_run::{
+    Entries, EventLog, Ground, Origins, PackedOrigin, Run, Scratch, Selection, append,
+};
 use instgen_select::Passive;
 use prop_logic::{Solver, Valuation};
 use std::alloc::Global;

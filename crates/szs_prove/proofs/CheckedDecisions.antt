@@ -15,10 +15,10 @@ use Rattle.cert_values.specs.declared.certificate.Saturation.{Saturation}
 use Rattle.cert_values.specs.declared.certificate.Covered.{Covered}
 use Rattle.cert_values.specs.Values.{covered_of, refutation_of, saturation_of}
 use Rattle.cert_front.specs.Kinds.{covered_value, refutation_value, saturation_value}
-use Rattle.instgen_loop.specs.declared.event.Event.{Event}
+use Rattle.instgen_run.specs.declared.event.Event.{Event}
 use Rattle.instgen_loop.specs.declared.outcome.Outcome.{Outcome}
 use Rattle.instgen_loop.specs.declared.outcome.Outcome.TheVariants as outcome
-use Rattle.instgen_loop.specs.Running.{event_in}
+use Rattle.instgen_run.specs.Running.{event_in}
 use Rattle.instgen_loop.specs.Outcomes.{IsOutcome, IsRefutedRun, IsSaturatedRun}
 use Rattle.instgen_loop.proofs.Started.{printable_formed}
 use Rattle.szs_prove.specs.declared.decision.Decision.{Decision}

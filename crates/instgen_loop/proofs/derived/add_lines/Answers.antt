@@ -5,9 +5,9 @@ use Rattle.term_bank.specs.Forest.{clause_at}
 use Rattle.term_bank.proofs.Growth.{extends_trans}
 use Rattle.cert_values.specs.declared.certificate.GroundLine.{GroundLine}
 use Rattle.cert_values.specs.Wholes.{IsWholeClause}
-use Rattle.instgen_loop.specs.Grounds.{IsLinked}
+use Rattle.instgen_run.specs.Grounds.{IsLinked}
 use Rattle.instgen_loop.specs.LineNumbers.{clauses_of}
-use Rattle.instgen_loop.proofs.Grown.{whole_kept}
+use Rattle.instgen_run.proofs.Grown.{whole_kept}
 use Rattle.instgen_loop.proofs.DerivedLaws.{clauses_push, line_whole_at}
 use Rattle.instgen_loop.proofs.derived.add_lines.Goals as goal
 

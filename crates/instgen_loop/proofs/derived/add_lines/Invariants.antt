@@ -1,7 +1,7 @@
 use Rattle.std.proofs.Common.{◌≡◌, length, map, take}
 use Rattle.term_bank.specs.Forest.{AreFormed, Extends, clause_at}
 use Rattle.ground_abs.specs.Abstracts.{AreAtomsIn, AreNotesIn}
-use Rattle.instgen_loop.specs.Grounds.{IsLinked}
+use Rattle.instgen_run.specs.Grounds.{IsLinked}
 use Rattle.instgen_loop.specs.LineNumbers.{clauses_of}
 use Rattle.instgen_loop.proofs.derived.add_lines.Given as goal
 

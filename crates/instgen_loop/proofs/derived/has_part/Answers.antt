@@ -3,9 +3,9 @@ use Rattle.std.specs.Prelude.{slice_get}
 use Rattle.std.proofs.Math.Seq.{take-length}
 use Rattle.std.proofs.lemmas.List.Elements.{All-push}
 use Rattle.inst_logic.specs.Derivations.{at_number}
-use Rattle.instgen_loop.specs.Clauses.{Item}
-use Rattle.instgen_loop.specs.Derived.{IsNoPart}
-use Rattle.instgen_loop.proofs.Decisions.{take_next}
+use Rattle.instgen_run.specs.Clauses.{Item}
+use Rattle.instgen_run.specs.Origins.{IsNoPart}
+use Rattle.instgen_run.proofs.Decisions.{take_next}
 use Rattle.instgen_loop.proofs.derived.has_part.Goals as goal
 
 pub loop-i-preserved : goal.loop-i-preserved

@@ -1,6 +1,6 @@
 use Rattle.std.proofs.Common.{All, take}
-use Rattle.instgen_loop.specs.Clauses.{Item}
-use Rattle.instgen_loop.specs.Derived.{IsNoPart}
+use Rattle.instgen_run.specs.Clauses.{Item}
+use Rattle.instgen_run.specs.Origins.{IsNoPart}
 use Rattle.instgen_loop.proofs.derived.has_part.Given as goal
 
 abbrev pub invariant-loop-i : goal.invariant-loop-i

@@ -1,4 +1,4 @@
-use Rattle.instgen_loop.proofs.Grounded.{sat_satisfies, unsat_refutes}
+use Rattle.instgen_run.proofs.Grounded.{sat_satisfies, unsat_refutes}
 use Rattle.instgen_loop.proofs.derived.refutation.Goals as goal
 
 pub unreachable-requires : goal.unreachable-requires

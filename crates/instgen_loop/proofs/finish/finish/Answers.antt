@@ -1,6 +1,6 @@
 use Rattle.std.proofs.Common.{◌∙◌, ap, ap₂}
 use Rattle.instgen_loop.specs.declared.finish.SettledRun.{SettledRun}
-use Rattle.instgen_loop.specs.Marks.{events_of}
+use Rattle.instgen_run.specs.Marks.{events_of}
 use Rattle.instgen_loop.specs.Tasks.{all_clauses}
 use Rattle.instgen_loop.proofs.Ended.{held_conclude, finished_read, events_read}
 use Rattle.instgen_loop.proofs.Endings.{saturated_outcome}

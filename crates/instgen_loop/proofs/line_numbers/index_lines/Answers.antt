@@ -6,7 +6,7 @@ use Rattle.inst_logic.specs.declared.signed.Signed.{Signed}
 use Rattle.cert_values.specs.declared.certificate.GroundLine.{GroundLine}
 use Rattle.indexmap.specs.IndexMap.{insert_entry}
 use Rattle.instgen_loop.specs.LineNumbers.{AreIndexed}
-use Rattle.instgen_loop.proofs.Decisions.{take_next}
+use Rattle.instgen_run.proofs.Decisions.{take_next}
 use Rattle.instgen_loop.proofs.LineNumbers.{one_more_indexed, same}
 use Rattle.instgen_loop.proofs.line_numbers.index_lines.Goals as goal
 

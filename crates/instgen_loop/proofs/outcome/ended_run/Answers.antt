@@ -1,10 +1,10 @@
 use Rattle.std.proofs.Common.{sym, ap, ◌∙◌, subst}
 use Rattle.std.specs.Prelude.{IfSome}
 use Rattle.instgen_loop.specs.declared.ending.Ending.{Ending}
-use Rattle.instgen_loop.specs.declared.state.Run.{Run}
+use Rattle.instgen_run.specs.declared.state.Run.{Run}
 use Rattle.instgen_loop.specs.Endings.{IsEndingAfter, entries_left}
-use Rattle.instgen_loop.specs.Logs.{Log}
-use Rattle.instgen_loop.specs.Marks.{events_of}
+use Rattle.instgen_run.specs.Logs.{Log}
+use Rattle.instgen_run.specs.Marks.{events_of}
 use Rattle.instgen_loop.specs.Tasks.{IsWithinBudget}
 use Rattle.instgen_loop.proofs.outcome.ended_run.Goals as goal
 

@@ -11,7 +11,7 @@ use Rattle.term_bank.specs.Forest.{AreIds, IsClauseOf, clause_at, literal_tree, 
 use Rattle.term_bank.proofs.Clauses.{clause_extends, clause_of_extends}
 use Rattle.clause_form.specs.Conclusions.{AreTermIds}
 use Rattle.instgen_loop.specs.PartTerms.{AreBoundTerms}
-use Rattle.instgen_loop.proofs.Parted.{chosen_map, kept_whole, same_part_back}
+use Rattle.instgen_run.proofs.Parted.{chosen_map, kept_whole, same_part_back}
 use Rattle.instgen_loop.proofs.PartTermLaws.{part_renumbered, terms_are, ids_are, plain_are}
 use Rattle.instgen_loop.proofs.part_terms.terms_with.Goals as goal
 

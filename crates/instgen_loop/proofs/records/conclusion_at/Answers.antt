@@ -7,9 +7,9 @@ use Rattle.inst_logic.proofs.ShownLaws.{at_number_contains}
 use Rattle.inst_calculus.proofs.Membership.{contains_in, all_in}
 use Rattle.term_bank.specs.Forest.{IsClauseOf, clause_at, tree_at}
 use Rattle.clause_form.specs.Conclusions.{AreTermsOf}
-use Rattle.instgen_loop.specs.Clauses.{Item}
-use Rattle.instgen_loop.proofs.FirstEntries.{whole_at}
-use Rattle.instgen_loop.proofs.Inferred.{from_clause_at}
+use Rattle.instgen_run.specs.Clauses.{Item}
+use Rattle.instgen_run.proofs.Grown.{whole_at}
+use Rattle.instgen_run.proofs.Inferred.{from_clause_at}
 use Rattle.instgen_loop.proofs.RecordLaws.{atom_within, clause_concluded, entry_ids, has_unifier, one_kind, terms_are}
 use Rattle.instgen_loop.proofs.records.conclusion_at.Goals as goal
 

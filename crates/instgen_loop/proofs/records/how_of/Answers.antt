@@ -11,9 +11,9 @@ use Rattle.global_subs.specs.Unrolls.{how_at}
 use Rattle.cert_values.specs.Values.{origin_of}
 use Rattle.cert_values.specs.declared.member.Origin.{Origin}
 use Rattle.term_bank.specs.Forest.{tree_at}
-use Rattle.instgen_loop.specs.Clauses.{entries_in}
+use Rattle.instgen_run.specs.Clauses.{entries_in}
 use Rattle.instgen_loop.specs.Records.{IsConcluded}
-use Rattle.instgen_loop.specs.declared.premises.Premises.{Premises}
+use Rattle.instgen_run.specs.declared.premises.Premises.{Premises}
 use Rattle.instgen_loop.proofs.records.how_of.Goals as goal
 
 pub returns-in_ok-at-in-Inst-clause-told : goal.returns-in_ok-at-in-Inst-clause-told

@@ -2,7 +2,7 @@ use Rattle.std.proofs.Common.{◌∙◌, ap, sym, subst, length}
 use Rattle.inst_logic.specs.Clauses.{TreeClause}
 use Rattle.inst_calculus.specs.Parts.{IsProperPart, chosen}
 use Rattle.inst_calculus.specs.Unrolling.{implied_by, part_terms}
-use Rattle.instgen_loop.proofs.Parted.{same_part}
+use Rattle.instgen_run.proofs.Parted.{same_part}
 use Rattle.instgen_loop.proofs.records.how_part.Goals as goal
 
 pub part_terms-requires-clause-keep : goal.part_terms-requires-clause-keep

@@ -3,7 +3,7 @@ use Rattle.inst_logic.specs.Derivations.{at_number}
 use Rattle.inst_calculus.proofs.Items.{same_item}
 use Rattle.term_bank.specs.Forest.{clause_at}
 use Rattle.cert_values.specs.declared.member.Origin.{Origin}
-use Rattle.instgen_loop.specs.Clauses.{Item, entries_in}
+use Rattle.instgen_run.specs.Clauses.{Item, entries_in}
 use Rattle.instgen_loop.specs.Records.{IsConcluded}
 use Rattle.instgen_loop.proofs.RecordLaws.{record_made}
 use Rattle.instgen_loop.proofs.records.record_of.Goals as goal

@@ -1,5 +1,5 @@
 use Rattle.ground_abs.proofs.Images.{constant_is_formed}
-use Rattle.instgen_loop.proofs.Grown.{entries_kept}
+use Rattle.instgen_run.proofs.Grown.{entries_kept}
 use Rattle.instgen_loop.proofs.RecordLaws.{concluded_extends}
 use Rattle.instgen_loop.proofs.records.records_of.Goals as goal
 

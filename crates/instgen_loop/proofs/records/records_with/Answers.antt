@@ -7,9 +7,9 @@ use Rattle.term_bank.specs.Forest.{IsTermIn, tree_at}
 use Rattle.inst_calculus.proofs.Distinct.{length_map}
 use Rattle.term_bank.proofs.Growth.{extends_trans}
 use Rattle.global_subs.specs.declared.made.Made.{Made}
-use Rattle.instgen_loop.specs.Clauses.{Item}
+use Rattle.instgen_run.specs.Clauses.{Item}
 use Rattle.instgen_loop.specs.Records.{IsRecord}
-use Rattle.instgen_loop.proofs.Grown.{entries_kept}
+use Rattle.instgen_run.proofs.Grown.{entries_kept}
 use Rattle.instgen_loop.proofs.RecordLaws.{concluded_extends, one_more_record, clauses_so_far}
 use Rattle.instgen_loop.proofs.records.records_with.Goals as goal
 

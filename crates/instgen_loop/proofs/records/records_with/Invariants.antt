@@ -4,7 +4,7 @@ use Rattle.inst_logic.specs.declared.symbol.Sym.{Sym}
 use Rattle.inst_logic.specs.Tree.{app, none}
 use Rattle.term_bank.specs.Forest.{AreFormed, Extends, IsTermIn, tree_at}
 use Rattle.global_subs.specs.declared.made.Made.{Made}
-use Rattle.instgen_loop.specs.Clauses.{Item}
+use Rattle.instgen_run.specs.Clauses.{Item}
 use Rattle.instgen_loop.specs.Records.{IsRecord}
 use Rattle.instgen_loop.proofs.records.records_with.Given as goal
 

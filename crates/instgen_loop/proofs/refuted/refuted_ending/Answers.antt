@@ -1,6 +1,6 @@
 use Rattle.std.proofs.Common.{ap, ap₂}
 use Rattle.instgen_loop.specs.declared.refuted.RefutedRun.{RefutedRun}
-use Rattle.instgen_loop.specs.Marks.{events_of}
+use Rattle.instgen_run.specs.Marks.{events_of}
 use Rattle.instgen_loop.proofs.Refuting.{refuted_ending}
 use Rattle.instgen_loop.proofs.refuted.refuted_ending.Goals as goal
 

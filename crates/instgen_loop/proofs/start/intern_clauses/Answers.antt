@@ -1,7 +1,6 @@
 use Rattle.std.proofs.Common.{◌<◌, ◌+◌, length, arith, sym, subst, take, List, ℕ}
 use Rattle.inst_logic.specs.declared.signed.Signed.{Signed}
 use Rattle.inst_logic.specs.WellFormed.{AreFormedClauses}
-use Rattle.term_bank.specs.Forest.{IsClauseAt}
 use Rattle.term_bank.proofs.Growth.{extends_trans}
 use Rattle.instgen_loop.specs.Starting.{AreGiven}
 use Rattle.term_bank.proofs.Clauses.{formed_at}

@@ -3,7 +3,7 @@ use Rattle.std.proofs.lemmas.Option.{get_or_from_slice_get}
 use Rattle.term_bank.specs.Forest.{clause_at}
 use Rattle.term_bank.proofs.Growth.{extends_trans}
 use Rattle.instgen_loop.specs.FirstEntries.{IsStarted}
-use Rattle.instgen_loop.proofs.Grown.{whole_kept, canonical_kept}
+use Rattle.instgen_run.proofs.Grown.{whole_kept, canonical_kept}
 use Rattle.instgen_loop.proofs.FirstEntries.{next_clause, taken_count, whole_item, bounded_item, canonical_item}
 use Rattle.instgen_loop.proofs.start.start_entries.Goals as goal
 

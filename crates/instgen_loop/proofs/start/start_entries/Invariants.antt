@@ -1,7 +1,7 @@
 use Rattle.std.proofs.Common.{◌≡◌, ◌+◌, ◌++◌, List, length, map, take}
 use Rattle.inst_logic.specs.Clauses.{TreeClause}
 use Rattle.term_bank.specs.Forest.{clause_at}
-use Rattle.instgen_loop.specs.Loops.{IsConsistent}
+use Rattle.instgen_run.specs.Loops.{IsConsistent}
 use Rattle.instgen_loop.specs.FirstEntries.{Continues, IsStarted}
 use Rattle.instgen_loop.proofs.start.start_entries.Given as goal
 

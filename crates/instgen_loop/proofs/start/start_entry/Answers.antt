@@ -2,8 +2,8 @@ use Rattle.std.proofs.Common.{◌≡◌, ◌∙◌, inl, inr, sym, subst, true, 
 use Rattle.std.proofs.lemmas.Bool.Decides.{Decides-eqb}
 use Rattle.inst_logic.specs.EqualLaws.{signed_eq_decides}
 use Rattle.term_bank.specs.Forest.{clause_at}
-use Rattle.instgen_loop.specs.Loops.{Appends}
-use Rattle.instgen_loop.proofs.Covers.{has_key}
+use Rattle.instgen_run.specs.Loops.{Appends}
+use Rattle.instgen_run.proofs.Covers.{has_key}
 use Rattle.instgen_loop.proofs.FirstEntries.{known_clause, new_clause, passes_over, takes}
 use Rattle.instgen_loop.proofs.start.start_entry.Goals as goal
 

@@ -1,6 +1,0 @@
-use Rattle.std.proofs.Common.{rules}
-use Rattle.instgen_loop.proofs.Asked.{both_parts}
-use Rattle.instgen_loop.proofs.ask.ask.Goals as goal
-
-pub returns-then-are_true_after-clause-none : goal.returns-then-are_true_after-clause-none
-returns-then-are_true_after-clause-none g c = both_parts c.args.literals.now c.args.v.now c.args.count c.requires.first (c.are_true_after.ensures (search rules))

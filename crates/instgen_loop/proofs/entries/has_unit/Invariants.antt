@@ -1,6 +1,0 @@
-use Rattle.std.proofs.Common.{All, take}
-use Rattle.instgen_loop.specs.Clauses.{IsNoUnit}
-use Rattle.instgen_loop.proofs.entries.has_unit.Given as goal
-
-abbrev pub invariant-loop-l : goal.invariant-loop-l
-invariant-loop-l g l = All (IsNoUnit l.entries.bank l.entries.clauses.entries) (take l.l-index l.d)

@@ -1,0 +1,17 @@
+pub mod Clauses
+pub mod Tested
+pub mod Grounds
+pub mod Selections
+pub mod Flips
+pub mod Loops
+pub mod Running
+pub mod Tended
+pub mod Solves
+pub mod Choosing
+pub mod Settling
+pub mod Deciding
+pub mod Logs
+pub mod Marks
+pub mod EventLogs
+pub mod Origins
+pub mod Alike
