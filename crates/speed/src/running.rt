@@ -33,6 +33,29 @@ fn outcome(alloc: Global, p: &Problem, budget: u32) -> Result<Option<Outcome>, M
     )
 }
 
+// What the run had. It is let go by a call: where the end of a scope lets it go, that takes a minute to prove.
+fn counts_in(outcome: Outcome) -> Counts {
+    let counts = counts_of(&outcome);
+    drop(outcome);
+    counts
+}
+
+// What the run had, where it ended.
+fn counts_where_ended(answer: Result<Option<Outcome>, Memory>) -> Option<Counts> {
+    match answer {
+        Ok(Some(outcome)) => Some(counts_in(outcome)),
+        Ok(None) | Err(Memory) => None,
+    }
+}
+
+// What a run on the problem had, which is let go.
+fn counts_for(alloc: Global, p: Problem, budget: u32) -> Option<Counts>
+    requires { IsGoodProblem p }
+{
+    let answer = outcome(alloc, &p, budget);
+    counts_where_ended(answer)
+}
+
 /// What a run on the file had. Nothing comes where there is no such problem or the memory does not do.
 pub fn counts_on<L: Library>(
     alloc: Global,
@@ -40,8 +63,8 @@ pub fn counts_on<L: Library>(
     name: &str,
     budget: u32,
 ) -> Option<Counts> {
-    let p = load(alloc, files, name, None).ok()?;
-    let answer = outcome(alloc, &p, budget).ok()?;
-    let outcome = answer?;
-    Some(counts_of(&outcome))
+    match load(alloc, files, name, None) {
+        Ok(p) => counts_for(alloc, p, budget),
+        Err(_) => None,
+    }
 }
