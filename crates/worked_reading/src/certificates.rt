@@ -263,7 +263,9 @@ fn push_outcome(answer: &mut Vec<u8>, outcome: &Result<ReadCert, CertError>) -> 
 /// Puts what the text is read as at the end of the answer.
 pub fn push_reading(alloc: Global, answer: &mut Vec<u8>, text: &[u8]) -> Result<(), Memory> {
     let outcome = read_certificate(alloc, text);
-    push_outcome(answer, &outcome)
+    let pushed = push_outcome(answer, &outcome);
+    drop(outcome);
+    pushed
 }
 
 // The form of a certificate and what it says of the clauses.
